@@ -18,8 +18,8 @@ use crate::pt_meeting_lines::Inside;
 use crate::pt_net::{Channel, End, Net, NetEntity, Port};
 use crate::pt_node::{Body, Held, Node};
 use crate::pt_past::{Labels, MeetingRecord, Past, Recorded, Records};
+use crate::pt_puts::KeptNeed;
 use crate::pt_recv::Channels;
-use crate::pt_rv_parts::KeptNeed;
 use crate::pt_rates::Edge;
 use crate::pt_sched::{SchedEdge, Stretch, schedule};
 use crate::pt_sdf::Core;
@@ -555,7 +555,7 @@ fn network_plan(entities: &[Entity], channels: &[(usize, usize)], children: &[No
 
 /// A composite of Rendezvous, with a record of its meetings.
 fn meetings_of(entities: &[Entity], channels: &[(usize, usize)], children: Row<Node>) -> Node {
-    let plan = crate::pt_rv_parts::CorePlan {
+    let plan = crate::pt_rv_plan::CorePlan {
         sources: row(channels.iter().map(|(from, _)| Source::Output(*from as u32, 0))),
         places: counts(entities.iter().map(|e| e.plus.len() + e.minus.len())),
         barriers: row(children.as_slice().iter().map(|child| match &child.body {

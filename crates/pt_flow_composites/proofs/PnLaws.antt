@@ -23,7 +23,8 @@ use Rattle.pt_pn_laws.specs.State.{Network, started}
 use Rattle.pt_pn_laws.proofs.ListLaws.{joined-nothing}
 use Rattle.pt_pn_laws.proofs.StartLaws.{calls-start}
 use Rattle.pt_process.specs.declared.plan.CorePlan.{CorePlan}
-use Rattle.pt_process.specs.Plan.{network_of, IsNamed, IsSoundNetwork}
+use Rattle.pt_process.specs.Plan.{network_of, IsSoundNetwork}
+use Rattle.pt_puts.specs.Fans.{IsNamed}
 use Rattle.pt_process.specs.Process.{need_in, IsKept}
 use Rattle.pt_library.specs.LibraryActor.{rows}
 use Rattle.pt_directors.specs.Directors.{of_pn}

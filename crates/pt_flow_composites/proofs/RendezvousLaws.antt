@@ -17,14 +17,14 @@ use Rattle.pt_laws.specs.StartedRuns.{IsThere, AllThere, IsWhole}
 use Rattle.pt_value.specs.declared.token.Token.{Token}
 use Rattle.pt_core.specs.Reached.{Always, AllAlways}
 use Rattle.pt_core.specs.Source.{source_of}
-use Rattle.pt_process.specs.Plan.{IsNamed}
+use Rattle.pt_puts.specs.Fans.{IsNamed}
 use Rattle.pt_rv_laws.specs.Lawful.{AllCount, HasPlaces, IsFor, IsLawful}
 use Rattle.pt_rv_laws.specs.RvActs.{State, Suits, rv_acts}
 use Rattle.pt_rv_laws.specs.State.{Processes, started}
 use Rattle.pt_rv_laws.proofs.BeginLaws.{calls-start}
-use Rattle.pt_rv_parts.specs.declared.plan.CorePlan.{CorePlan}
-use Rattle.pt_rv_parts.specs.Plan.{processes_of, AreSound}
-use Rattle.pt_rv_parts.specs.Process.{need_in}
+use Rattle.pt_rv_plan.specs.declared.plan.CorePlan.{CorePlan}
+use Rattle.pt_rv_plan.specs.Plan.{processes_of, AreSound}
+use Rattle.pt_puts.specs.Need.{need_in}
 use Rattle.pt_library.specs.LibraryActor.{rows}
 use Rattle.pt_directors.specs.Directors.{of_rendezvous}
 use Rattle.pt_past.specs.Recorded.{RecordedPort}

@@ -2,7 +2,7 @@ ghost use Rattle.std.specs.Prelude.{◌≡◌, ◌↔◌, IfOk, IfErr, IsTrue, l
 ghost use Rattle.pt_core.specs.Source.{source_of};
 ghost use Rattle.pt_node.specs.Shown.{shown, shown_node};
 ghost use Rattle.pt_rv_laws.specs.State.{started};
-ghost use Rattle.pt_rv_parts.specs.Plan.{AreSound};
+ghost use Rattle.pt_rv_plan.specs.Plan.{AreSound};
 ghost use Rattle.pt_trees.specs.Around.{around_of};
 ghost use Rattle.pt_trees.specs.Composite.{trees_of, IsComposed, IsUncomposed};
 ghost use Rattle.pt_trees.specs.Fresh.{AllFresh, AreEmpty};
@@ -17,7 +17,7 @@ use pt_node::Node;
 use pt_past::{Labels, MeetingRecord, Records};
 use pt_rv::Core;
 use pt_rv_inside::{barriers_of, is_met, kept_needs_of};
-use pt_rv_parts::CorePlan;
+use pt_rv_plan::CorePlan;
 use pt_stated::Stated;
 use pt_trees::{CompositeFault, Wiring};
 use pt_value::Text;

@@ -13,7 +13,7 @@ use Rattle.pt_recv.specs.Lines.{list_at, spare_at, pushed}
 use Rattle.pt_pn_laws.specs.State.{Network, Idle, Open, Closed, AllStopped, asked_process, lent_if, least_full, doubled, greatest_of, begun, after_told, after_grow, closed, own_of}
 use Rattle.pt_pn_laws.specs.Lawful.{HasPlaces}
 use Rattle.pt_process.specs.Process.{Standing, arrivals, count_on, once_fired}
-use Rattle.pt_process.proofs.StagedLaws.{fan-puts, each-there}
+use Rattle.pt_puts.proofs.PutLaws.{fan-puts, each-there}
 use Rattle.pt_pn_work.specs.Core.{State, nobody, state_with, NoneHanded}
 use Rattle.pt_pn_work.proofs.CoreLaws.{placed-at, puts-is}
 use Rattle.pt_pn.specs.declared.pn.Core.TheInside.{Inside}

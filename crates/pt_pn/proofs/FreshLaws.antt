@@ -15,7 +15,7 @@ use Rattle.pt_pn_laws.specs.Lawful.{HasPlaces}
 use Rattle.pt_process.specs.Plan.{network_of, IsSoundNetwork}
 use Rattle.pt_process.specs.declared.plan.CorePlan.{CorePlan}
 use Rattle.pt_process.specs.Process.{Standing, at_start, need_in}
-use Rattle.pt_process.proofs.RoomLaws.{emptied-is}
+use Rattle.pt_puts.proofs.LineLaws.{emptied-is}
 use Rattle.pt_pn_work.specs.Core.{State, nobody, needs_of, puts_of_all, gathered_of, state_with, staged_on, ArePlaced, NoneHanded}
 use Rattle.pt_pn.specs.Fresh.{starting}
 use Rattle.pt_pn.specs.Core.{IsKept}

@@ -10,7 +10,8 @@ use Rattle.pt_firing.specs.declared.ask.Ask.TheVariants as ask
 use Rattle.pt_recv.specs.Lines.{list_at, pushed, popped}
 use Rattle.pt_pn_laws.specs.State.{Network, Open, Asked, MayGet, MayPut, MayFire, IsStopped, asked_process, has_room, need_at, offset_of, lacking_place, in_stage, after_get, after_put, capacity_of, greatest_of}
 use Rattle.pt_process.specs.declared.process.Event.{Event}
-use Rattle.pt_process.specs.Process.{Standing, DoesNext, PutsFirst, with_token, with_put_made, with_handed}
+use Rattle.pt_process.specs.Process.{Standing, DoesNext, with_token, with_put_made, with_handed}
+use Rattle.pt_puts.specs.Puts.{PutsFirst}
 use Rattle.pt_process.proofs.NetworkLaws.{at-get-or}
 use Rattle.pt_pn_work.specs.Core.{State, nobody, puts_of_all, state_with, NoneHanded, IsAlone, PutsOn, LacksAt, GetsAt, Does}
 use Rattle.pt_pn_work.proofs.CoreLaws.{placed-long, part-is, need-is, puts-is, handed-is, does-so, get-is, may-get, put-is, fire-is, alone-now, handed-kept, room-outside, room-inside, list-is, first-put, puts-on, get-stops, read-as}

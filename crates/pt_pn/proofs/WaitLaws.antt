@@ -8,8 +8,9 @@ use Rattle.pt_meaning.specs.Places.{taken_if}
 use Rattle.pt_meaning.specs.Jam.{is_next_put, waited_from}
 use Rattle.pt_recv.specs.Lines.{list_at}
 use Rattle.pt_value.specs.declared.token.Token.{Token}
-use Rattle.pt_process.specs.Process.{Standing, PutsFirst}
-use Rattle.pt_process.proofs.NetworkLaws.{at-past}
+use Rattle.pt_process.specs.Process.{Standing}
+use Rattle.pt_puts.specs.Puts.{PutsFirst}
+use Rattle.pt_puts.proofs.LineLaws.{at-past}
 use Rattle.pt_pn_work.specs.Core.{nobody, puts_of_all}
 use Rattle.pt_pn_work.proofs.CoreLaws.{puts-is}
 use Rattle.pt_pn.specs.Waiting.{SomePuts, NonePut, MarksWaited, marked_with}

@@ -8,7 +8,8 @@ use Rattle.pt_meaning.specs.Process.{Put}
 use Rattle.pt_meaning.specs.Places.{Halfway}
 use Rattle.pt_value.specs.declared.token.Token.{Token}
 use Rattle.pt_pn_laws.specs.State.{Network, Stage, Idle, Open, Asked, Closed, Blocked, PnState}
-use Rattle.pt_process.specs.Codes.{coded_streams, coded_need, coded_put, coded_network}
+use Rattle.pt_puts.specs.Codes.{coded_streams, coded_need, coded_put}
+use Rattle.pt_process.specs.Codes.{coded_network}
 
 abbrev coded_tag : Coded Tag
 coded_tag = code_by (ℕ × ℕ) (coded× coded_ℕ coded_ℕ) (λ t. (t.time, t.step)) (λ p. record { time = p.0; step = p.1 }) (λ _. refl)

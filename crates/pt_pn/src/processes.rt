@@ -5,14 +5,16 @@ ghost use Rattle.pt_value.specs.declared.token.Token.TheVariants.{Int};
 ghost use Rattle.pt_firing.specs.Need.{need_of};
 ghost use Rattle.pt_pn_laws.specs.State.{lacking_place};
 ghost use Rattle.pt_pn_laws.specs.Lawful.{HasPlaces};
-ghost use Rattle.pt_process.specs.Process.{DoesNext, put_of, puts_in, with_token, with_put_made, with_handed, once_fired};
+ghost use Rattle.pt_process.specs.Process.{DoesNext, with_token, with_put_made, with_handed, once_fired};
+ghost use Rattle.pt_puts.specs.Puts.{put_of, puts_in};
 ghost use Rattle.pt_pn_work.specs.Core.{nobody, puts_of_all};
 ghost use Rattle.pt_recv.specs.Lines.{list_at};
 ghost use Rattle.pt_pn.specs.Gets.{GetsFirst};
 
 use crate::outlets::next_token;
 use pt_firing::Need;
-use pt_process::{Event, Process, StagedPut};
+use pt_process::{Event, Process};
+use pt_puts::StagedPut;
 use pt_recv::Channels;
 use pt_value::Token;
 use std::alloc::{AllocError, Global};

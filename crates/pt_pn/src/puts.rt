@@ -1,11 +1,12 @@
 ghost use Rattle.std.specs.Prelude.{◌≡◌, ℕ, ◌+◌, ◌-◌, ◌<◌, ◌≤◌, ◌∷◌, length, get_or, set};
 ghost use Rattle.pt_recv.specs.Lines.{spare_at, pushed, lowered};
-ghost use Rattle.pt_process.specs.Process.{put_of, puts_in, count_on};
+ghost use Rattle.pt_puts.specs.Puts.{put_of, puts_in};
+ghost use Rattle.pt_process.specs.Process.{count_on};
 ghost use Rattle.pt_pn.specs.Puts.{all_put};
 ghost use Rattle.pt_pn.specs.Noted.{tokens_came};
 
 use crate::notes::Notes;
-use pt_process::StagedPut;
+use pt_puts::StagedPut;
 use pt_recv::Channels;
 use std::collections::VecDeque;
 

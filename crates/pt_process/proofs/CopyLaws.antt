@@ -1,30 +1,18 @@
 -- Processes that are copied.
-use Rattle.std.proofs.Common.{◌≡◌, ◌⊎◌, inl, inr, ℕ, zero, suc, ◌+◌, ◌<◌, ◌≤◌, List, [], ◌∷◌, ◌++◌, Bool, true, false, length, take, get_or, refl, sym, ap, ap₂, subst, ◌∙◌, arith}
-use Rattle.std.proofs.lemmas.List.{map_more}
+use Rattle.std.proofs.Common.{◌≡◌, ◌⊎◌, inl, inr, ℕ, zero, suc, ◌+◌, ◌<◌, ◌≤◌, List, [], ◌∷◌, ◌++◌, Bool, true, false, length, get_or, refl, sym, ap, ap₂, subst, ◌∙◌, arith}
 use Rattle.pt_meaning.specs.Streams.{Streams, at}
 use Rattle.pt_meaning.specs.Jam.{is_in_order}
 use Rattle.pt_reaction.specs.Spared.{Spared}
 use Rattle.pt_reaction.specs.Channels.{lists_of}
 use Rattle.pt_value.specs.declared.token.Token.{Token}
-use Rattle.pt_process.specs.declared.process.StagedPut.{StagedPut}
+use Rattle.pt_puts.specs.declared.puts.StagedPut.{StagedPut}
 use Rattle.pt_process.specs.declared.process.Process.TheInside.{Inside}
 use Rattle.pt_process.specs.declared.need.KeptNeed.{KeptNeed}
 use Rattle.pt_process.specs.declared.need.KeptNeed.TheVariants as kept
-use Rattle.pt_process.specs.Process.{Standing, put_of, puts_in, need_kept, row_if, got_in, alone_in, lined_in, room_at, HasOne, Gathers, seen_process}
-use Rattle.pt_process.proofs.ProcessLaws.{lines-long}
-use Rattle.pt_process.proofs.StagedLaws.{puts-more}
-
--- one put more
-pub puts-next : (us cs : List StagedPut) (k : ℕ) (u v : StagedPut) → k < length us → u ≡ get_or us k u → put_of v ≡ put_of u → puts_in cs ≡ puts_in (take k us) → puts_in (cs ++ (v ∷ [])) ≡ puts_in (take (k + 1) us)
-puts-next us cs k u v h e z f = puts-more cs v ∙ ap₂ (λ x y. x ++ (y ∷ [])) f (z ∙ ap put_of e) ∙ sym (map_more put_of us k u h)
-
--- one line more
-pub lines-next : (L R : List (Spared Token)) (k : ℕ) (l w : Spared Token) → k < length L → l ≡ get_or L k l → w.list ≡ l.list → lists_of R ≡ lists_of (take k L) → lists_of (R ++ (w ∷ [])) ≡ lists_of (take (k + 1) L)
-lines-next L R k l w h e z f = behind R ∙ ap₂ (λ x y. x ++ (y ∷ [])) f (z ∙ ap (λ (v : Spared Token). v.list) e) ∙ sym (map_more (λ (v : Spared Token). v.list) L k l h)
-  where
-    behind : (R : List (Spared Token)) → lists_of (R ++ (w ∷ [])) ≡ lists_of R ++ (w.list ∷ [])
-    behind [] = refl
-    behind (x ∷ R) = ap (λ v. x.list ∷ v) (behind R)
+use Rattle.pt_process.specs.Process.{Standing, need_kept, row_if, got_in, alone_in, lined_in, HasOne, Gathers, seen_process}
+use Rattle.pt_puts.specs.Puts.{puts_in}
+use Rattle.pt_puts.specs.Lines.{room_at}
+use Rattle.pt_puts.proofs.LineLaws.{same-lines}
 
 -- there is room for as many tokens as are gathered at a place
 abbrev pub HasRoomAt : List ℕ → List (Spared Token) → ℕ → Type 0
@@ -66,9 +54,6 @@ rooms-next ns R w k count n h e r q l = by (split q k l)
         let c = e ∙ ap (λ j. get_or ns j 0) (sym n) in
         omega (arith, a, b, c, r)
         )
-
-pub same-lines : (L M : List (Spared Token)) → lists_of M ≡ lists_of L → length M ≡ length L
-same-lines L M e = sym (lines-long M) ∙ ap (λ v. length v) e ∙ lines-long L
 
 module _ (handed : Bool) (full : ℕ) (row row' : Streams Token) (L M : List (Spared Token)) (f : row' ≡ row) (e : lists_of M ≡ lists_of L) where
   pub gathers-same : (need : KeptNeed) → ((q : ℕ) → q < length L → HasRoomAt (lined_in need) M q) → Gathers need handed full row L → Gathers need handed full row' M

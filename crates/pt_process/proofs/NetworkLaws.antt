@@ -18,11 +18,6 @@ at-read [] i xs h e = absurd (omega (arith, h))
 at-read (y ∷ X) zero xs h e = e
 at-read (y ∷ X) (suc i) xs h e = at-read X i xs (omega (arith, h)) e
 
-pub at-past : {T : Type 0} (X : Streams T) (i : ℕ) → length X ≤ i → at X i ≡ []
-at-past [] i h = refl
-at-past (y ∷ X) zero h = absurd (omega (arith, h))
-at-past (y ∷ X) (suc i) h = at-past X i (omega (arith, h))
-
 pub at-get-or : {T : Type 0} (X : Streams T) (i : ℕ) → at X i ≡ get_or X i []
 at-get-or [] i = refl
 at-get-or (y ∷ X) zero = refl
@@ -45,7 +40,3 @@ offset-is n w i h v e =
     other [] i v h = absurd (omega (arith, h))
     other (x ∷ xs) zero v h = refl
     other (x ∷ xs) (suc i) v h = other xs i v (omega (arith, h))
-
-pub total-whole : (ns : List ℕ) → offset_of ns (length ns) ≡ total ns
-total-whole [] = refl
-total-whole (m ∷ ns) = ap (λ v. m + v) (total-whole ns)

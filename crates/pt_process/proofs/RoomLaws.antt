@@ -13,8 +13,9 @@ use Rattle.pt_reaction.specs.Channels.{lists_of}
 use Rattle.pt_value.specs.declared.token.Token.{Token}
 use Rattle.pt_process.specs.declared.need.KeptNeed.{KeptNeed}
 use Rattle.pt_process.specs.declared.need.KeptNeed.TheVariants as kept
-use Rattle.pt_process.specs.Process.{GathersBy, Gathers, HasRooms, IsKept, need_kept, got_in, lined_in, room_at}
-use Rattle.pt_process.proofs.ProcessLaws.{lines-long}
+use Rattle.pt_process.specs.Process.{GathersBy, Gathers, HasRooms, IsKept, need_kept, got_in, lined_in}
+use Rattle.pt_puts.specs.Lines.{room_at}
+use Rattle.pt_puts.proofs.LineLaws.{lines-long, are-empty, emptied-is}
 
 pub all-empty : {T : Type 0} (X : Streams T) → ((q : ℕ) → q < length X → at X q ≡ []) → is_empty X ≡ true
 all-empty [] h = refl
@@ -23,14 +24,6 @@ all-empty ((x ∷ xs) ∷ X) h = absurd (no x xs (h 0 (omega arith)))
   where
     no : {T : Type 0} (x : T) (xs : List T) → (x ∷ xs) ≡ [] → ⊥
     no x xs e = cc
-
-pub are-empty : {T : Type 0} (X : Streams T) → ((q : ℕ) → q < length X → at X q ≡ []) → X ≡ replicate (length X) []
-are-empty [] h = refl
-are-empty {T} (xs ∷ X) h = ap (λ (v : List T). v ∷ X) (h 0 (omega arith)) ∙ ap (λ (v : Streams T). [] ∷ v) (are-empty X (λ q l. h (suc q) (omega (arith, l))))
-
-pub emptied-is : {T : Type 0} (X : Streams T) → emptied X ≡ replicate (length X) []
-emptied-is [] = refl
-emptied-is {T} (xs ∷ X) = ap (λ (v : Streams T). [] ∷ v) (emptied-is X)
 
 module _ (ns : List ℕ) (lines : List (Spared Token)) (r : HasRooms ns lines) where
   lists-empty : (q : ℕ) → q < length (lists_of lines) → at (lists_of lines) q ≡ []

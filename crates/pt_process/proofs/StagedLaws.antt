@@ -3,63 +3,18 @@ use Rattle.std.proofs.Common.{◌≡◌, ℕ, zero, suc, ◌+◌, ◌<◌, ◌�
 use Rattle.std.proofs.Math.ListN.{get_or-map}
 use Rattle.std.proofs.lemmas.List.{length-map}
 use Rattle.std.proofs.lemmas.Bool.Decides.{nat_tests}
-use Rattle.pt_meaning.specs.Streams.{Streams, at, get}
+use Rattle.pt_meaning.specs.Streams.{Streams, get}
 use Rattle.pt_meaning.specs.Kahn.{arrival}
-use Rattle.pt_meaning.specs.Net.{Source, Output}
-use Rattle.pt_meaning.specs.Process.{Put, to_each, puts_of_port, puts_of, channels_from}
+use Rattle.pt_meaning.specs.Net.{Source}
+use Rattle.pt_meaning.specs.Process.{Put, to_each, puts_of_port}
 use Rattle.std.specs.Prelude.{slice_set}
 use Rattle.std.specs.List.{All}
 use Rattle.pt_recv.specs.Lines.{spare_at}
 use Rattle.pt_value.specs.declared.token.Token.{Token}
-use Rattle.pt_process.specs.declared.process.StagedPut.{StagedPut}
-use Rattle.pt_process.specs.Process.{put_of, puts_in, arrivals, one_if, count_on}
-
-joined-up : {A : Type 0} (X Y Z : List A) → (X ++ Y) ++ Z ≡ X ++ (Y ++ Z)
-joined-up [] Y Z = refl
-joined-up (x ∷ X) Y Z = ap (λ v. x ∷ v) (joined-up X Y Z)
-
-pub puts-more : (us : List StagedPut) (u : StagedPut) → puts_in (us ++ (u ∷ [])) ≡ puts_in us ++ (put_of u ∷ [])
-puts-more [] u = refl
-puts-more (v ∷ us) u = ap (λ w. put_of v ∷ w) (puts-more us u)
-
-each-next : (x : Token) (cs : List ℕ) (k : ℕ) → k < length cs → to_each x (take (suc k) cs) ≡ to_each x (take k cs) ++ to_each x (get_or cs k 0 ∷ [])
-each-next x [] k h = absurd (omega (arith, h))
-each-next x (c ∷ cs) zero h = refl
-each-next x (c ∷ cs) (suc k) h = ap (λ (w : List (Put Token)). record { channel = c; token = x } ∷ w) (each-next x cs k (omega (arith, h)))
-
--- one channel more
-pub each-more : (x : Token) (cs : List ℕ) (k : ℕ) (before now after : List (Put Token)) (c : ℕ) → k < length cs → now ≡ before ++ to_each x (take k cs) → c ≡ get_or cs k 0 → after ≡ now ++ to_each x (c ∷ []) → after ≡ before ++ to_each x (take (k + 1) cs)
-each-more x cs k before now after c h e z f =
-    f ∙ ap₂ (λ v d. v ++ to_each x (d ∷ [])) e z ∙ joined-up before (to_each x (take k cs)) (to_each x (get_or cs k 0 ∷ [])) ∙ ap (λ v. before ++ v) (sym (each-next x cs k h)) ∙ ap (λ j. before ++ to_each x (take j cs)) (sym (add-one k))
-
-port-next : (cs : List ℕ) (xs : List Token) (k : ℕ) (x : Token) → k < length xs → x ≡ get_or xs k x → puts_of_port cs (take (suc k) xs) ≡ puts_of_port cs (take k xs) ++ to_each x cs
-port-next cs [] k x h e = absurd (omega (arith, h))
-port-next cs (y ∷ xs) zero x h e = ap (λ v. to_each v cs ++ []) (sym e) ∙ append-nil (to_each x cs)
-port-next cs (y ∷ xs) (suc k) x h e = ap (λ v. to_each y cs ++ v) (port-next cs xs k x (omega (arith, h)) e) ∙ sym (joined-up (to_each y cs) (puts_of_port cs (take k xs)) (to_each x cs))
-
--- one token more
-pub port-more : (cs : List ℕ) (xs : List Token) (k : ℕ) (x : Token) (before now after : List (Put Token)) → k < length xs → x ≡ get_or xs k x → now ≡ before ++ puts_of_port cs (take k xs) → after ≡ now ++ to_each x cs → after ≡ before ++ puts_of_port cs (take (k + 1) xs)
-port-more cs xs k x before now after h e z f =
-    f ∙ ap (λ v. v ++ to_each x cs) z ∙ joined-up before (puts_of_port cs (take k xs)) (to_each x cs) ∙ ap (λ v. before ++ v) (sym (port-next cs xs k x h e)) ∙ ap (λ j. before ++ puts_of_port cs (take j xs)) (sym (add-one k))
-
--- one port more
-pub outputs-more : (ss : List Source) (i p : ℕ) (X : Streams Token) (now after all : List (Put Token)) → p < length X → after ≡ now ++ puts_of_port (channels_from 0 (Output i p) ss) (at X p) → now ++ puts_of ss i p (drop p X) ≡ all → after ++ puts_of ss i (p + 1) (drop (p + 1) X) ≡ all
-outputs-more ss i p X now after all h f e =
-    ap₂ (λ v j. v ++ puts_of ss i j (drop j X)) f (add-one p) ∙ joined-up now (puts_of_port (channels_from 0 (Output i p) ss) (at X p)) (puts_of ss i (suc p) (drop (suc p) X)) ∙ ap (λ v. now ++ v) (sym (front ss i p p X h)) ∙ e
-  where
-    front : (ss : List Source) (i p k : ℕ) (X : Streams Token) → k < length X → puts_of ss i p (drop k X) ≡ puts_of_port (channels_from 0 (Output i p) ss) (at X k) ++ puts_of ss i (suc p) (drop (suc k) X)
-    front ss i p k [] h = absurd (omega (arith, h))
-    front ss i p zero (x ∷ X) h = refl
-    front ss i p (suc k) (x ∷ X) h = front ss i p k X (omega (arith, h))
-
-pub outputs-all : (ss : List Source) (i p : ℕ) (X : Streams Token) (now all : List (Put Token)) → length X ≤ p → now ++ puts_of ss i p (drop p X) ≡ all → now ≡ all
-outputs-all ss i p X now all h e = sym (append-nil now) ∙ ap (λ v. now ++ puts_of ss i p v) (sym (past X p h)) ∙ e
-  where
-    past : (X : Streams Token) (p : ℕ) → length X ≤ p → drop p X ≡ []
-    past [] zero h = refl
-    past [] (suc p) h = refl
-    past (x ∷ X) zero h = absurd (omega (arith, h))
-    past (x ∷ X) (suc p) h = past X p (omega (arith, h))
+use Rattle.pt_puts.specs.declared.puts.StagedPut.{StagedPut}
+use Rattle.pt_puts.specs.Puts.{put_of, puts_in}
+use Rattle.pt_process.specs.Process.{arrivals, one_if, count_on}
+use Rattle.pt_puts.proofs.PutLaws.{joined-up}
 
 count-next : (d : ℕ) (us : List StagedPut) (k : ℕ) (u : StagedPut) → k < length us → u ≡ get_or us k u → count_on d (puts_in (take (suc k) us)) ≡ count_on d (puts_in (take k us)) + one_if (nat_eq u.channel d)
 count-next d [] k u h e = absurd (omega (arith, h))
@@ -164,17 +119,3 @@ arrivals-all ss c inputs now all h e = sym (append-nil now) ∙ ap (λ v. now ++
     past [] (suc c) h = refl
     past (x ∷ ss) zero h = absurd (omega (arith, h))
     past (x ∷ ss) (suc c) h = past ss c (omega (arith, h))
-
--- one token on the one port
-pub fan-puts : (ss : List Source) (i : ℕ) (x : Token) (cs : List ℕ) → cs ≡ channels_from 0 (Output i 0) ss → to_each x cs ≡ puts_of ss i 0 ((x ∷ []) ∷ [])
-fan-puts ss i x cs e =
-    ap (λ d. to_each x d) e ∙ sym (append-nil (to_each x (channels_from 0 (Output i 0) ss))) ∙ sym (append-nil (to_each x (channels_from 0 (Output i 0) ss) ++ []))
-
-pub number-puts : (ss : List Source) (i : ℕ) (x : Token) (now after : List (Put Token)) (cs : List ℕ) → now ≡ [] → cs ≡ channels_from 0 (Output i 0) ss → after ≡ now ++ to_each x cs → after ≡ puts_of ss i 0 ((x ∷ []) ∷ [])
-number-puts ss i x now after cs z e f = f ∙ ap (λ v. v ++ to_each x cs) z ∙ fan-puts ss i x cs e
-
--- of puts of a token on each of these channels
-pub each-there : (P : ℕ → Type 0) (x : Token) (cs : List ℕ) → All (λ (u : Put Token). P u.channel) (to_each x cs) → All P cs
-each-there P x [] a k d h = absurd (omega (arith, h))
-each-there P x (c ∷ cs) a zero d h = a 0 (record { channel = 0; token = x }) (omega arith)
-each-there P x (c ∷ cs) a (suc k) d h = each-there P x cs (λ j u l. a (suc j) u (omega (arith, l))) k d (omega (arith, h))

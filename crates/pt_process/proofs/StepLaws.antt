@@ -12,8 +12,10 @@ use Rattle.pt_process.specs.declared.need.KeptNeed.TheVariants as kept
 use Rattle.pt_process.specs.declared.process.Event.{Event}
 use Rattle.pt_process.specs.declared.process.Event.TheVariants as event
 use Rattle.pt_process.specs.declared.process.Process.TheInside.{Inside}
-use Rattle.pt_process.specs.Process.{Standing, IsSound, GathersBy, Gathers, HasOne, DoesNext, event_by, lacks_one, alone_in, seen_process, need_kept, got_in, puts_in, with_token, with_handed, renewed, once_fired}
-use Rattle.pt_process.proofs.ProcessLaws.{got-lines, got-row, got-places, alone-has, alone-twice, lines-long, line-spare, line-more, lacks-there, gathers-more, gets-next, fires-next}
+use Rattle.pt_process.specs.Process.{Standing, IsSound, GathersBy, Gathers, HasOne, DoesNext, event_by, lacks_one, alone_in, seen_process, need_kept, got_in, with_token, with_handed, renewed, once_fired}
+use Rattle.pt_puts.specs.Puts.{puts_in}
+use Rattle.pt_process.proofs.ProcessLaws.{got-lines, got-row, got-places, alone-has, alone-twice, gathers-more, fires-next}
+use Rattle.pt_puts.proofs.LineLaws.{lines-long, line-spare, line-more, lacks-there, gets-next}
 
 pub not-handed : (p : Inside) (s : Standing) → seen_process p ≡ s → s.handed ≡ false → p.is_handed ≡ false
 not-handed p s v h = ap (λ (t : Standing). t.handed) v ∙ h

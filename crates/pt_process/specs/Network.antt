@@ -7,7 +7,8 @@ use Rattle.pt_core.specs.Source.{source_of}
 use Rattle.pt_reaction.specs.Offsets.{begins}
 use Rattle.pt_pn_laws.specs.State as state
 use Rattle.pt_process.specs.declared.network.Network.TheInside.{Inside}
-use Rattle.pt_process.specs.Plan.{network_of, IsSoundNetwork, AreFans, fans_in}
+use Rattle.pt_process.specs.Plan.{network_of, IsSoundNetwork, AreFans}
+use Rattle.pt_puts.specs.Fans.{fans_in}
 
 abbrev pub seen_network : Inside → state.Network Token
 seen_network n = network_of n.plan

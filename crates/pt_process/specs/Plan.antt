@@ -1,7 +1,6 @@
 -- What the code's plan is among the definitions, and which channels begin at a port.
-use Rattle.std.specs.Prelude.{◌≡◌, ℕ, ◌^◌, ◌<◌, List, [], ◌++◌, nat_eq, length, map, get_or, Vec}
+use Rattle.std.specs.Prelude.{◌≡◌, ℕ, ◌^◌, ◌<◌, List, [], ◌++◌, length, map, get_or}
 use Rattle.std.specs.List.{All}
-use Rattle.std.specs.Global.{Global}
 use Rattle.pt_meaning.specs.Machine.{Over}
 use Rattle.pt_meaning.specs.Net as net
 use Rattle.pt_meaning.specs.Process.{channels_from, listed_if, is_source}
@@ -10,6 +9,7 @@ use Rattle.pt_core.specs.Source.{source_of}
 use Rattle.pt_pn_laws.specs.State.{Network}
 use Rattle.pt_pn_laws.specs.Lawful.{IsLawful, HasPlaces}
 use Rattle.pt_process.specs.declared.plan.CorePlan.{CorePlan}
+use Rattle.pt_puts.specs.Fans.{IsNamed, fan_at}
 use Rattle.pt_process.specs.Process.{need_in}
 
 abbrev pub network_of : CorePlan → Network Token
@@ -31,11 +31,6 @@ pub record IsSamePlan (p q : CorePlan) : Type 0 where
   pub first : q.first.items ≡ p.first.items
   pub starts : q.starts.items ≡ p.starts.items
 
--- the channel begins at an own input, or at an output of one of n processes
-abbrev pub IsNamed : ℕ → net.Source → Type 0
-IsNamed n (net.Own port) = Unit {0}
-IsNamed n (net.Output child port) = child < n
-
 -- A network that a core may have: it is lawful, processes and channels have numbers of 32 bits, channels begin at what is there, and each process needs a count for each of its places, or is over.
 pub record IsSoundNetwork {T : Type 0} (n : Network T) : Type 0 where
   pub lawful : IsLawful n
@@ -44,13 +39,6 @@ pub record IsSoundNetwork {T : Type 0} (n : Network T) : Type 0 where
   pub named : All (IsNamed (length n.plan.net.places)) n.plan.net.sources
   pub counts : (i : ℕ) → i < length n.plan.net.places → HasPlaces (get_or n.plan.net.places i 0) (get_or n.starts i Over)
 
--- the lists of rows of rows
-abbrev pub fans_in : List (Vec (Vec ℕ Global) Global) → List (List (List ℕ))
-fans_in rows = map (λ row. map (λ fan. fan.items) row.items) rows
-
-abbrev pub fan_at : List (List (List ℕ)) → ℕ → ℕ → List ℕ
-fan_at fans i p = get_or (get_or fans i []) p []
-
 -- of each process and port the channels that begin there
 abbrev pub AreFans : List net.Source → List (List (List ℕ)) → Type 0
 AreFans sources fans = (i p : ℕ) → fan_at fans i p ≡ channels_from 0 (net.Output i p) sources
@@ -58,10 +46,3 @@ AreFans sources fans = (i p : ℕ) → fan_at fans i p ≡ channels_from 0 (net.
 -- the same once channel c is noted, which begins at this source
 abbrev pub FansMore : net.Source → ℕ → List (List (List ℕ)) → List (List (List ℕ)) → Type 0
 FansMore s c before after = (i p : ℕ) → fan_at after i p ≡ fan_at before i p ++ listed_if (is_source (net.Output i p) s) c []
-
--- the same of one process
-abbrev pub RowMore : ℕ → ℕ → List (List ℕ) → List (List ℕ) → Type 0
-RowMore p c before after = (q : ℕ) → get_or after q [] ≡ get_or before q [] ++ listed_if (nat_eq q p) c []
-
-abbrev pub row_in : List (Vec ℕ Global) → List (List ℕ)
-row_in row = map (λ fan. fan.items) row

@@ -1,5 +1,5 @@
 -- One process of a network: what it needs, what it has gathered, and what it has still to put (Kahn and MacQueen 1977).
-use Rattle.std.specs.Prelude.{◌≡◌, ℕ, zero, suc, ◌+◌, ◌<◌, ◌≤◌, List, [], ◌∷◌, ◌++◌, Bool, true, false, nat_eq, length, map, drop, get_or, replicate, Option, Some, None, refl}
+use Rattle.std.specs.Prelude.{◌≡◌, ℕ, zero, suc, ◌+◌, ◌<◌, ◌≤◌, List, [], ◌∷◌, ◌++◌, Bool, true, false, nat_eq, length, drop, get_or, replicate, Option, Some, None, refl}
 use Rattle.std.specs.Coded.{Coded, code_by, coded×, coded_bool, coded_list}
 use Rattle.pt_meaning.specs.Streams.{Streams, at, change_at}
 use Rattle.pt_meaning.specs.Machine.{Need, Over, Counts, Any, Takes, front}
@@ -11,13 +11,14 @@ use Rattle.pt_pn_laws.specs.State.{lacking_place}
 use Rattle.pt_reaction.specs.Spared.{Spared}
 use Rattle.pt_reaction.specs.Channels.{lists_of}
 use Rattle.pt_value.specs.declared.token.Token.{Token}
-use Rattle.pt_process.specs.declared.process.StagedPut.{StagedPut}
+use Rattle.pt_puts.specs.Puts.{puts_in}
+use Rattle.pt_puts.specs.Lines.{room_at}
 use Rattle.pt_process.specs.declared.process.Event.{Event}
 use Rattle.pt_process.specs.declared.process.Event.TheVariants as event
 use Rattle.pt_process.specs.declared.need.KeptNeed.{KeptNeed}
 use Rattle.pt_process.specs.declared.need.KeptNeed.TheVariants as kept
 use Rattle.pt_process.specs.declared.process.Process.TheInside.{Inside}
-use Rattle.pt_process.specs.Codes.{coded_need, coded_streams, coded_put}
+use Rattle.pt_puts.specs.Codes.{coded_need, coded_streams, coded_put}
 
 -- What contracts see of a process, and whether its tokens are handed over, so that they can be lent.
 pub record Standing : Type 0 where
@@ -39,12 +40,6 @@ coded_standing =
 abbrev pub need_in : Option (List ℕ) → Need
 need_in None = Over
 need_in (Some ns) = Counts ns
-
-abbrev pub put_of : StagedPut → Put Token
-put_of u = record { channel = u.channel; token = u.token }
-
-abbrev pub puts_in : List StagedPut → List (Put Token)
-puts_in us = map put_of us
 
 -- a need that is kept, among the definitions
 abbrev pub need_kept : KeptNeed → Need
@@ -71,10 +66,6 @@ got_in kept.One handed front row lines = alone_in front row
 abbrev pub seen_process : Inside → Standing
 seen_process p = record { need = need_kept p.need; got = got_in p.need p.is_handed p.full p.row.items p.lines.items; puts = puts_in p.puts.items; handed = p.is_handed }
 
--- room for so many more tokens at a place
-abbrev pub room_at : List (Spared Token) → ℕ → ℕ
-room_at lines q = get_or (map (λ (l : Spared Token). l.spare) lines) q 0
-
 -- A process gathers by these counts: in the order of its places and no more than that, with room for all; so many places at the front lack nothing.
 pub record GathersBy (ns : List ℕ) (front : ℕ) (lines : List (Spared Token)) : Type 0 where
   pub counted : length ns ≡ length lines
@@ -97,11 +88,6 @@ Gathers kept.One handed front row lines = HasOne handed front row
 pub record IsSound (p : Inside) : Type 0 where
   pub row : length p.row.items ≡ length p.lines.items
   pub gathers : Gathers p.need p.is_handed p.full p.row.items p.lines.items
-
--- of these puts the first is on this channel, or there is none
-abbrev pub PutsFirst : List (Put Token) → Option ℕ → Type 0
-PutsFirst us None = us ≡ []
-PutsFirst us (Some channel) = (u : Put Token) × (rest : List (Put Token)) × (us ≡ u ∷ rest) × (u.channel ≡ channel)
 
 -- what a process does next
 abbrev pub DoesNext : Standing → Event → Type 0

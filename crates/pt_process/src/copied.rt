@@ -1,14 +1,14 @@
 ghost use Rattle.std.specs.Prelude.{◌≡◌, ℕ, ◌+◌, ◌<◌, ◌≤◌, length, get_or, IfOk};
 ghost use Rattle.pt_meaning.specs.Streams.{at};
 ghost use Rattle.pt_reaction.specs.Channels.{lists_of};
-ghost use Rattle.pt_process.specs.Process.{room_at, put_of, puts_in};
+ghost use Rattle.pt_puts.specs.Lines.{room_at};
 
 use crate::plan::copies;
-use crate::process::{Process, StagedPut};
+use crate::process::Process;
 use crate::renew::count_at;
+use pt_puts::puts_again;
 use pt_reaction::Line;
 use std::alloc::{AllocError, Global};
-use std::collections::VecDeque;
 
 impl Process {
     ghost use Rattle.std.specs.Prelude.{◌≡◌, IfOk};
@@ -30,30 +30,6 @@ impl Process {
             puts,
         })
     }
-}
-
-/// The same puts again.
-fn puts_again(alloc: Global, puts: &VecDeque<StagedPut>) -> Result<VecDeque<StagedPut>, AllocError>
-    ensures { IfOk result (λ copies. puts_in copies.items ≡ puts_in puts.now.items) }
-{
-    let mut copies = VecDeque::new(alloc);
-    for k in 0..puts.len() {
-        let copy = put_again(alloc, &puts[k])?;
-        match copies.push_back(copy) {
-            Ok(()) => {}
-            Err(_) => return Err(AllocError),
-        }
-    }
-    Ok(copies)
-}
-
-fn put_again(alloc: Global, put: &StagedPut) -> Result<StagedPut, AllocError>
-    ensures { IfOk result (λ copy. put_of copy ≡ put_of put.now) }
-{
-    Ok(StagedPut {
-        channel: put.channel,
-        token: put.token.copy(alloc)?,
-    })
 }
 
 /// The same lines again, each with room for as many tokens as are gathered there.

@@ -2,7 +2,8 @@ ghost use Rattle.std.specs.Prelude.{◌≡◌, ℕ, ◌^◌, ◌<◌, ◌≤◌,
 ghost use Rattle.std.specs.List.{All};
 ghost use Rattle.pt_meaning.specs.Net.{Output};
 ghost use Rattle.pt_core.specs.Source.{source_of};
-ghost use Rattle.pt_process.specs.Plan.{IsNamed, AreFans, FansMore, RowMore, fans_in, row_in};
+ghost use Rattle.pt_puts.specs.Fans.{IsNamed, RowMore, fans_in, row_in};
+ghost use Rattle.pt_process.specs.Plan.{AreFans, FansMore};
 
 use pt_core::Source;
 use std::alloc::{AllocError, Global};

@@ -13,5 +13,5 @@ mod staged;
 
 pub use network::Network;
 pub use plan::{CorePlan, need_copy};
-pub use process::{Event, Process, StagedPut};
+pub use process::{Event, Process};
 pub use staged::{promise, promise_each, stage_inputs, stage_outputs};

@@ -3,9 +3,9 @@ ghost use Rattle.std.specs.Prelude.{◌≡◌, ◌∷◌, [], ◌++◌, IfSome, 
 ghost use Rattle.pt_firing.specs.IntInputs.{one_at_each};
 ghost use Rattle.pt_meaning.specs.Process.{to_each};
 ghost use Rattle.pt_value.specs.declared.token.Token.TheVariants.{Int};
-ghost use Rattle.pt_process.specs.Process.{puts_in};
+ghost use Rattle.pt_puts.specs.Puts.{puts_in};
 
-use crate::process::{Process, StagedPut};
+use crate::process::Process;
 use pt_firing::{IntInputs, Need, Tokens};
 use pt_value::Token;
 use std::alloc::{AllocError, Global};

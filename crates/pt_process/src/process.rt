@@ -3,22 +3,17 @@ ghost use Rattle.pt_meaning.specs.Streams.{at};
 ghost use Rattle.pt_meaning.specs.Process.{lacking};
 ghost use Rattle.pt_reaction.specs.Channels.{lists_of};
 ghost use Rattle.pt_value.specs.declared.token.Token.TheVariants.{Int};
-ghost use Rattle.pt_process.specs.Process.{PutsFirst, event_by, lacks_one, alone_in, puts_in};
+ghost use Rattle.pt_puts.specs.Puts.{PutsFirst, puts_in};
+ghost use Rattle.pt_process.specs.Process.{event_by, lacks_one, alone_in};
 
 use crate::need::KeptNeed;
 use pt_firing::{Counts, Inputs, Tokens};
+use pt_puts::{StagedPut, first_put};
 use pt_reaction::Line;
 use pt_value::Token;
 use std::alloc::{AllocError, Global};
 use std::collections::VecDeque;
 use std::marker::Model;
-
-/// A put that a process has still to make.
-#[derive(Drop)]
-pub struct StagedPut {
-    pub channel: u32,
-    pub token: Token,
-}
 
 /// What a process does next.
 #[derive(Clone, Copy, Debug)]
@@ -62,7 +57,8 @@ impl Process {
     ghost use Rattle.std.specs.Prelude.{◌≡◌, ◌<◌, [], length, slice_get, true, false, Some};
     ghost use Rattle.pt_pn_laws.specs.State.{lacking_place};
     ghost use Rattle.pt_value.specs.declared.token.Token.TheVariants.{Int};
-    ghost use Rattle.pt_process.specs.Process.{DoesNext, PutsFirst, put_of, with_token, with_put_made, with_handed};
+    ghost use Rattle.pt_process.specs.Process.{DoesNext, with_token, with_put_made, with_handed};
+    ghost use Rattle.pt_puts.specs.Puts.{PutsFirst, put_of};
 
     /// What it does next.
     #[inline(always)]
@@ -175,17 +171,6 @@ impl Process {
     {
         Inputs::of(&self.row)
     }
-}
-
-/// The channel of the first of these puts, if there is one.
-fn first_put(puts: &VecDeque<StagedPut>) -> Option<u32>
-    ensures { PutsFirst (puts_in puts.now.items) result }
-{
-    let waiting = puts.len();
-    if waiting == 0 {
-        return None;
-    }
-    Some(puts[0].channel)
 }
 
 /// What a process does next that needs so many tokens, and has no put to make.

@@ -3,10 +3,11 @@ ghost use Rattle.pt_meaning.specs.Streams.{at};
 ghost use Rattle.pt_firing.specs.Need.{need_of};
 ghost use Rattle.pt_reaction.specs.Channels.{lists_of};
 ghost use Rattle.pt_meaning.specs.Machine as machine;
-ghost use Rattle.pt_process.specs.Process.{need_kept, room_at, HasRooms, IsKept};
+ghost use Rattle.pt_process.specs.Process.{need_kept, HasRooms, IsKept};
+ghost use Rattle.pt_puts.specs.Lines.{room_at};
 
 use crate::need::{KeptNeed, is_one};
-use crate::process::{Process, StagedPut};
+use crate::process::Process;
 use pt_firing::{Counts, Need, Tokens};
 use pt_reaction::Line;
 use std::alloc::{AllocError, Global};
@@ -17,7 +18,8 @@ impl Process {
     ghost use Rattle.std.specs.Prelude.{◌≡◌, length, true, IfOk, OnOk, OnErr};
     ghost use Rattle.pt_firing.specs.Need.{need_of};
     ghost use Rattle.pt_pn_laws.specs.Lawful.{HasPlaces};
-    ghost use Rattle.pt_process.specs.Process.{need_in, at_start, once_fired, renewed, with_puts, puts_in};
+    ghost use Rattle.pt_process.specs.Process.{need_in, at_start, once_fired, renewed, with_puts};
+    ghost use Rattle.pt_puts.specs.Puts.{puts_in};
 
     /// A process at its start.
     pub fn new(alloc: Global, need: Option<Counts>, places: usize) -> Result<Process, AllocError>

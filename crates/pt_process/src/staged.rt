@@ -6,13 +6,13 @@ ghost use Rattle.pt_meaning.specs.Process.{puts_of, puts_of_port, to_each};
 ghost use Rattle.pt_core.specs.Source.{source_of};
 ghost use Rattle.pt_value.specs.declared.token.Token.{Token};
 ghost use Rattle.pt_recv.specs.Lines.{spare_at};
-ghost use Rattle.pt_process.specs.Process.{puts_in, arrivals};
-ghost use Rattle.pt_process.specs.Process.{count_on};
+ghost use Rattle.pt_puts.specs.Puts.{puts_in};
+ghost use Rattle.pt_process.specs.Process.{arrivals, count_on};
 
 use crate::network::Network;
-use crate::process::StagedPut;
 use pt_core::Source;
 use pt_firing::{Inputs, Outputs};
+use pt_puts::StagedPut;
 use pt_recv::Channels;
 use pt_value::Token;
 use std::alloc::{AllocError, Global};

@@ -18,7 +18,7 @@ use Rattle.pt_rv_laws.specs.Lawful.{HasPlaces}
 use Rattle.pt_rv_work.specs.Core.{Standing, Moving, nobody, next_of, with_handed, barriers_of, needs_of, gots_of, puts_of_all, state_with, offer_in, offers_in, gets_there, passed_to, all_passed}
 use Rattle.pt_rv_work.specs.Seen.{IsIllegal}
 use Rattle.pt_rv_work.proofs.SeenLaws.{processes-are-seen, meetings-are-seen, barriers-are-seen}
-use Rattle.pt_rv_parts.specs.Ends.{Arriving}
+use Rattle.pt_rv_plan.specs.Ends.{Arriving}
 use Rattle.pt_rv_parts.specs.Team.{NoneHanded, AllAtRest}
 use Rattle.pt_rv_parts.proofs.ListLaws.{map-kept, change-at, change-other, change-long}
 use Rattle.pt_rv.specs.declared.rv.Stage as declared

@@ -9,9 +9,9 @@ use Rattle.pt_meaning.specs.Rendezvous.{arriving}
 use Rattle.pt_value.specs.declared.token.Token.{Token}
 use Rattle.pt_reaction.specs.Spared.{Spared}
 use Rattle.pt_pn_laws.proofs.ListLaws.{either-nat, nat-apart}
-use Rattle.pt_process.specs.declared.process.StagedPut.{StagedPut}
-use Rattle.pt_process.specs.Process.{put_of, puts_in}
-use Rattle.pt_rv_parts.specs.Ends.{Arriving}
+use Rattle.pt_puts.specs.declared.puts.StagedPut.{StagedPut}
+use Rattle.pt_puts.specs.Puts.{put_of, puts_in}
+use Rattle.pt_rv_plan.specs.Ends.{Arriving}
 use Rattle.pt_rv.specs.Ends.{PromisedMore, comings_of, arrived_in, no_inlet}
 use Rattle.pt_rv.specs.Parties.{inputs_of, outputs_of, weight_of, each, on, one_if, spare_at}
 use Rattle.pt_rv.proofs.WeightLaws.{weights-append}

@@ -11,7 +11,7 @@ use Rattle.pt_value.specs.declared.token.Token.{Token}
 use Rattle.pt_rv_laws.specs.State.{Processes, RvState, Idle, started}
 use Rattle.pt_rv_laws.specs.Lawful.{HasPlaces}
 use Rattle.pt_rv_work.specs.Core.{Standing, Moving, nobody, barriers_of, needs_of, gots_of, puts_of_all, state_with}
-use Rattle.pt_rv_parts.specs.Plan.{AreSound}
+use Rattle.pt_rv_plan.specs.Plan.{AreSound}
 use Rattle.pt_rv_parts.specs.Process.{at_start}
 use Rattle.pt_rv_parts.specs.Team.{NoneHanded}
 use Rattle.pt_rv.specs.declared.parties.Parties.{Parties}

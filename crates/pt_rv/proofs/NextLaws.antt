@@ -8,7 +8,7 @@ use Rattle.pt_meaning.specs.Meetings.{Place, Outlet, target_from}
 use Rattle.pt_meaning.specs.Process.{Put, gets_at, is_joining, by_puts, by_need, if_lacking, if_any, lacking}
 use Rattle.pt_meaning.specs.Running.{total}
 use Rattle.pt_value.specs.declared.token.Token.{Token}
-use Rattle.pt_process.proofs.ProcessLaws.{lacks-there, gets-next}
+use Rattle.pt_puts.proofs.LineLaws.{lacks-there, gets-next}
 use Rattle.pt_rv_work.specs.Core.{Standing, next_of}
 use Rattle.pt_rv_parts.specs.Process.{TakesAt, taken_at}
 

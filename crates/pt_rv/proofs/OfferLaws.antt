@@ -5,7 +5,7 @@ use Rattle.pt_meaning.specs.Meetings.{first_on}
 use Rattle.pt_meaning.specs.Net.{Net, Source}
 use Rattle.pt_meaning.specs.Process.{Put, gets_at, is_joining, by_puts, by_need}
 use Rattle.pt_value.specs.declared.token.Token.{Token}
-use Rattle.pt_process.specs.Process.{PutsFirst}
+use Rattle.pt_puts.specs.Puts.{PutsFirst}
 use Rattle.pt_rv_work.specs.Core.{Standing, Moving, next_of, puts_at, offer_in}
 use Rattle.pt_rv_parts.specs.declared.process.Event.{Event}
 use Rattle.pt_rv_parts.specs.declared.process.Event.TheVariants as event

@@ -9,11 +9,11 @@ use Rattle.pt_meaning.specs.Net.{Net, Source, Own, Output}
 use Rattle.pt_meaning.specs.Process.{Put}
 use Rattle.pt_meaning.specs.Running.{total}
 use Rattle.pt_value.specs.declared.token.Token.{Token}
-use Rattle.pt_process.specs.Plan.{IsNamed}
+use Rattle.pt_puts.specs.Fans.{IsNamed}
 use Rattle.pt_rv_laws.specs.State.{Processes}
 use Rattle.pt_rv_laws.specs.Lawful.{HasPlaces}
 use Rattle.pt_rv_work.specs.Core.{Moving, nobody, puts_at, offer_in, sent_by, received_by, passed_to}
-use Rattle.pt_rv_parts.specs.Plan.{AreSound}
+use Rattle.pt_rv_plan.specs.Plan.{AreSound}
 use Rattle.pt_rv_parts.specs.Process.{MayTake}
 use Rattle.pt_rv_parts.specs.Team.{NoneHanded}
 use Rattle.pt_rv.specs.declared.parties.Parties.{Parties}

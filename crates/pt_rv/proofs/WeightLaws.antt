@@ -6,7 +6,7 @@ use Rattle.pt_meaning.specs.Net.{Source, Own, Output}
 use Rattle.pt_meaning.specs.Process.{Put, rest_of}
 use Rattle.pt_value.specs.declared.token.Token.{Token}
 use Rattle.pt_rv_work.specs.Core.{Standing, Moving, nobody, puts_of_all, puts_at, sent_by, received_by, with_token, with_put_made}
-use Rattle.pt_rv_parts.specs.Ends.{Arriving}
+use Rattle.pt_rv_plan.specs.Ends.{Arriving}
 use Rattle.pt_rv_parts.proofs.ListLaws.{map-change, map-kept}
 use Rattle.pt_rv.specs.Ends.{arrived_in, comings_of}
 use Rattle.pt_rv.specs.Parties.{inputs_of, weight_of, weights_of, waiting}

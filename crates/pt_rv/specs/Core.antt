@@ -8,7 +8,7 @@ use Rattle.pt_rv_laws.specs.State.{RvState, Processes, Stage, Idle, Open, Asked,
 use Rattle.pt_rv_laws.specs.RvActs.{Gives, asking}
 use Rattle.pt_rv_work.specs.Core.{nobody, next_of, state_with}
 use Rattle.pt_rv_work.specs.Seen.{IsIllegal}
-use Rattle.pt_rv_parts.specs.Plan.{AreSound}
+use Rattle.pt_rv_plan.specs.Plan.{AreSound}
 use Rattle.pt_rv_parts.specs.Team.{NoneHanded}
 use Rattle.pt_rv.specs.declared.rv.Stage as declared
 use Rattle.pt_rv.specs.declared.rv.Stage.TheVariants as code

@@ -3,7 +3,7 @@ use Rattle.std.specs.Prelude.{◌≡◌, ℕ, ◌+◌, ◌<◌, ◌≤◌, List,
 use Rattle.pt_meaning.specs.Process.{Put}
 use Rattle.pt_value.specs.declared.token.Token.{Token}
 use Rattle.pt_reaction.specs.Spared.{Spared}
-use Rattle.pt_rv_parts.specs.Ends.{Arriving}
+use Rattle.pt_rv_plan.specs.Ends.{Arriving}
 use Rattle.pt_rv.specs.Parties.{weights_of, each, on, spare_at}
 
 abbrev pub no_inlet : Arriving

@@ -12,7 +12,7 @@ use Rattle.pt_reaction.specs.Spared.{Spared}
 use Rattle.pt_rv_laws.specs.State.{Processes}
 use Rattle.pt_rv_laws.specs.Lawful.{HasPlaces}
 use Rattle.pt_rv_work.specs.Core.{Standing, Moving, nobody, next_of, barriers_of, puts_of_all, offer_in, offers_in}
-use Rattle.pt_rv_parts.specs.Ends.{Arriving}
+use Rattle.pt_rv_plan.specs.Ends.{Arriving}
 use Rattle.pt_rv_parts.specs.Process.{MayTake}
 use Rattle.pt_rv.specs.declared.parties.Parties.{Parties}
 

@@ -8,9 +8,9 @@ use Rattle.pt_meaning.specs.Machine.{Need}
 use Rattle.pt_meaning.specs.Process.{Put}
 use Rattle.pt_meaning.specs.Rendezvous.{Places}
 use Rattle.pt_value.specs.declared.token.Token.{Token}
-use Rattle.pt_process.specs.Codes.{coded_streams, coded_need, coded_put}
+use Rattle.pt_puts.specs.Codes.{coded_streams, coded_need, coded_put}
 use Rattle.pt_rv_laws.specs.State.{Processes, Stage, Idle, Open, Asked, Closed, RvState}
-use Rattle.pt_rv_parts.specs.Codes.{coded_meeting, coded_processes}
+use Rattle.pt_rv_plan.specs.Codes.{coded_meeting, coded_processes}
 
 abbrev coded_tag : Coded Tag
 coded_tag = code_by (ℕ × ℕ) (coded× coded_ℕ coded_ℕ) (λ t. (t.time, t.step)) (λ p. record { time = p.0; step = p.1 }) (λ _. refl)

@@ -3,13 +3,13 @@ ghost use Rattle.std.specs.Prelude.{◌≡◌, ℕ, ◌+◌, ◌<◌, ◌≤◌,
 ghost use Rattle.pt_meaning.specs.Streams.{at};
 ghost use Rattle.pt_meaning.specs.Net.{Own};
 ghost use Rattle.pt_meaning.specs.Process.{puts_of_port, channels_from, emptied};
-ghost use Rattle.pt_process.specs.Process.{put_of, puts_in};
+ghost use Rattle.pt_puts.specs.Puts.{put_of, puts_in};
 ghost use Rattle.pt_rv.specs.Parties.{inputs_of, outputs_of, weight_of, on, spare_at, one_if};
 ghost use Rattle.pt_rv.specs.Ends.{comings_of, arrived_in, no_inlet, PromisedMore};
 
 use pt_firing::{Inputs, Outputs, Tokens};
-use pt_process::StagedPut;
-use pt_rv_parts::{Inlet, Meetings, Outlet, Plan};
+use pt_puts::StagedPut;
+use pt_rv_plan::{Inlet, Meetings, Outlet, Plan};
 use pt_value::Token;
 use std::alloc::{AllocError, Global};
 use std::collections::VecDeque;

@@ -1,13 +1,16 @@
 ghost use Rattle.std.specs.Prelude.{◌≡◌, ℕ, ◌-◌, ◌<◌, [], length, get_or, map, replicate, IfOk};
 ghost use Rattle.pt_meaning.specs.Machine.{Over};
 ghost use Rattle.pt_rv_laws.specs.Lawful.{HasPlaces};
-ghost use Rattle.pt_rv_parts.specs.Plan.{AreSound};
-ghost use Rattle.pt_rv_parts.specs.Process.{at_start, need_in};
+ghost use Rattle.pt_rv_plan.specs.Plan.{AreSound};
+ghost use Rattle.pt_rv_parts.specs.Process.{at_start};
+ghost use Rattle.pt_puts.specs.Need.{need_in};
 ghost use Rattle.pt_rv.specs.Parties.{inputs_of, outputs_of};
 ghost use Rattle.pt_rv.specs.Fresh.{IsFresh, starting};
 
 use crate::parties::Parties;
-use pt_rv_parts::{Inlet, KeptNeed, Outlet, Plan, Process, Team};
+use pt_puts::KeptNeed;
+use pt_rv_parts::{Process, Team};
+use pt_rv_plan::{Inlet, Outlet, Plan};
 use std::alloc::{AllocError, Global};
 
 /// The parties of a plan at their start.

@@ -3,7 +3,8 @@
 use crate::offers::is_offered;
 use crate::rv::Core;
 use pt_firing::Ask;
-use pt_rv_parts::{Event, Target};
+use pt_rv_parts::Event;
+use pt_rv_plan::Target;
 
 impl Core {
     ghost use Rattle.std.specs.Prelude.{◌≡◌, ◌<◌, length};

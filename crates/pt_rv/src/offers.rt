@@ -4,15 +4,15 @@ ghost use Rattle.pt_meaning.specs.Log.{Barrier};
 ghost use Rattle.pt_meaning.specs.Meetings.{all_there, hops_in, target_from};
 ghost use Rattle.pt_meaning.specs.Process.{is_joining};
 ghost use Rattle.pt_core.specs.Source.{source_of};
-ghost use Rattle.pt_process.specs.Process.{PutsFirst};
+ghost use Rattle.pt_puts.specs.Puts.{PutsFirst};
 ghost use Rattle.pt_rv_work.specs.Core.{nobody, next_of, puts_at, offer_in, offers_in, gets_there};
-ghost use Rattle.pt_rv_parts.specs.Plan.{AreSound, target_of};
+ghost use Rattle.pt_rv_plan.specs.Plan.{AreSound, target_of};
 ghost use Rattle.pt_rv_parts.specs.Team.{NoneHanded};
 ghost use Rattle.pt_rv.specs.Parties.{FitIn, IsThere, EndsThere, is_there, moving_in, is_next};
 
 use crate::parties::Parties;
 use pt_core::Source;
-use pt_rv_parts::{Plan, Target};
+use pt_rv_plan::{Plan, Target};
 
 /// Whether a token is offered on a channel, and who receives at its end gets there next.
 #[inline(always)]

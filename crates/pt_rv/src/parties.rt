@@ -1,7 +1,8 @@
 ghost use Rattle.std.specs.Prelude.{◌≡◌, ℕ, length, IfOk};
 ghost use Rattle.pt_rv.specs.Parties.{inputs_of, outputs_of};
 
-use pt_rv_parts::{Inlet, Outlet, Team};
+use pt_rv_parts::Team;
+use pt_rv_plan::{Inlet, Outlet};
 use std::alloc::{AllocError, Global};
 
 /// Who takes part in meetings: the processes, the own inputs and the own outputs.

@@ -6,16 +6,16 @@ ghost use Rattle.pt_meaning.specs.Process.{rest_of};
 ghost use Rattle.pt_meaning.specs.Streams.{at, change_at};
 ghost use Rattle.pt_value.specs.declared.token.Token.{Token as token};
 ghost use Rattle.pt_core.specs.Source.{source_of};
-ghost use Rattle.pt_process.specs.Process.{put_of};
+ghost use Rattle.pt_puts.specs.Puts.{put_of};
 ghost use Rattle.pt_rv_work.specs.Core.{puts_at, offer_in, offers_in, sent_by, received_by, passed_to, all_passed};
-ghost use Rattle.pt_rv_parts.specs.Plan.{AreSound, target_of};
+ghost use Rattle.pt_rv_plan.specs.Plan.{AreSound, target_of};
 ghost use Rattle.pt_rv_parts.specs.Team.{NoneHanded};
 ghost use Rattle.pt_rv.specs.Parties.{FitIn, IsSender, MayReceive, IsOffered, Receives, Joins, AllLevel, inputs_of, outputs_of, moving_in, waiting, each, spare_at, less_at};
 
 use crate::parties::Parties;
 use pt_core::Source;
-use pt_process::StagedPut;
-use pt_rv_parts::{Inlet, Outlet, Plan, Target};
+use pt_puts::StagedPut;
+use pt_rv_plan::{Inlet, Outlet, Plan, Target};
 use pt_value::Token;
 
 /// Passes the tokens of all channels of a Barrier, one after another. It takes no memory.

@@ -8,8 +8,8 @@ use crate::parties::Parties;
 use crate::staging::{stage_arrivals, tell};
 use crate::worklist::Worklist;
 use pt_firing::{Ask, Counts, Inputs, Meeting, Need, Outputs};
-use pt_process::StagedPut;
-use pt_rv_parts::{CorePlan, Meetings, Plan, stage_outputs};
+use pt_puts::StagedPut;
+use pt_rv_plan::{CorePlan, Meetings, Plan, stage_outputs};
 use pt_time::Tag;
 use std::alloc::{AllocError, Global};
 use std::collections::VecDeque;
@@ -78,7 +78,7 @@ impl Core {
     ghost use Rattle.pt_firing.specs.Need.{need_of};
     ghost use Rattle.pt_rv_laws.specs.State.{Idle, Closed, asked_process, lent_if, started, restarted, begun, after_told, closed};
     ghost use Rattle.pt_rv_laws.specs.RvActs.{MayAsk};
-    ghost use Rattle.pt_rv_parts.specs.Plan.{processes_of, AreSound};
+    ghost use Rattle.pt_rv_plan.specs.Plan.{processes_of, AreSound};
     ghost use Rattle.pt_rv.specs.Core.{Comes};
     ghost use Rattle.pt_rv.specs.Fresh.{IsFresh};
 

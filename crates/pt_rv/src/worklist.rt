@@ -1,6 +1,6 @@
 use crate::waiting::Waiting;
 use pt_core::Source;
-use pt_rv_parts::{Plan, Target};
+use pt_rv_plan::{Plan, Target};
 use std::alloc::{AllocError, Global};
 use std::collections::VecDeque;
 

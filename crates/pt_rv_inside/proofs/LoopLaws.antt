@@ -10,8 +10,8 @@ use Rattle.pt_library.specs.LibraryActor.{rows}
 use Rattle.pt_node.specs.declared.node.Node.{Node}
 use Rattle.pt_node.specs.Shown.{shown_node}
 use Rattle.pt_node.specs.View.{Tree, node_of}
-use Rattle.pt_rv_parts.specs.declared.need.KeptNeed.{KeptNeed}
-use Rattle.pt_rv_parts.specs.Process.{need_in}
+use Rattle.pt_puts.specs.declared.need.KeptNeed.{KeptNeed}
+use Rattle.pt_puts.specs.Need.{need_in}
 use Rattle.pt_trees.specs.Rendezvous.{is_barrier, IsPlaced, AllPlaced}
 use Rattle.pt_trees.proofs.NodeLaws.{trees, trees-length, trees-more, tree-at, map-append}
 

@@ -3,12 +3,12 @@ ghost use Rattle.pt_meaning.specs.NodeFacts as facts;
 ghost use Rattle.pt_library.specs.LibraryActor.{rows};
 ghost use Rattle.pt_node.specs.Shown.{shown, shown_node};
 ghost use Rattle.pt_node.specs.View.{node_of};
-ghost use Rattle.pt_rv_parts.specs.Process.{need_in};
+ghost use Rattle.pt_puts.specs.Need.{need_in};
 ghost use Rattle.pt_trees.specs.Composite.{trees_of};
 
 use pt_firing::Need;
 use pt_node::Node;
-use pt_rv_parts::KeptNeed;
+use pt_puts::KeptNeed;
 use std::alloc::{AllocError, Global};
 
 /// What a node needs now, as it is kept.

@@ -4,14 +4,16 @@ use Rattle.pt_meaning.specs.Streams.{Streams, at}
 use Rattle.pt_reaction.specs.Spared.{Spared}
 use Rattle.pt_reaction.specs.Channels.{lists_of}
 use Rattle.pt_value.specs.declared.token.Token.{Token}
-use Rattle.pt_process.specs.declared.process.StagedPut.{StagedPut}
-use Rattle.pt_process.specs.Process.{puts_in, room_at}
-use Rattle.pt_process.proofs.CopyLaws.{same-lines}
+use Rattle.pt_puts.specs.declared.puts.StagedPut.{StagedPut}
+use Rattle.pt_puts.specs.Puts.{puts_in}
+use Rattle.pt_puts.specs.Lines.{room_at}
+use Rattle.pt_puts.proofs.LineLaws.{same-lines}
 use Rattle.pt_rv_work.specs.Core.{Standing}
-use Rattle.pt_rv_parts.specs.declared.need.KeptNeed.{KeptNeed}
-use Rattle.pt_rv_parts.specs.declared.need.KeptNeed.TheVariants.{Over, Counts, One, Any}
+use Rattle.pt_puts.specs.declared.need.KeptNeed.{KeptNeed}
+use Rattle.pt_puts.specs.declared.need.KeptNeed.TheVariants.{Over, Counts, One, Any}
 use Rattle.pt_rv_parts.specs.declared.process.Process.TheInside.{Inside}
-use Rattle.pt_rv_parts.specs.Process.{Gathers, taken_at, counts_in, need_in, got_in, row_if, seen_process}
+use Rattle.pt_rv_parts.specs.Process.{Gathers, taken_at, counts_in, got_in, row_if, seen_process}
+use Rattle.pt_puts.specs.Need.{need_in}
 
 -- there is room at a place for its count of tokens, and for so many at least
 abbrev pub HasRoomAt : List ℕ → ℕ → List (Spared Token) → ℕ → Type 0

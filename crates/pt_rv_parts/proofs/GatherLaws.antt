@@ -6,9 +6,9 @@ use Rattle.pt_value.specs.declared.token.Token.{Token}
 use Rattle.pt_reaction.specs.Spared.{Spared}
 use Rattle.pt_reaction.specs.Channels.{lists_of}
 use Rattle.pt_pn_laws.proofs.ListLaws.{either-nat, nat-apart, at-change, at-change-other, at-set, at-set-other, past-end}
-use Rattle.pt_process.specs.Process.{room_at}
-use Rattle.pt_process.proofs.ProcessLaws.{lines-long}
-use Rattle.pt_process.proofs.RoomLaws.{are-empty, emptied-is}
+use Rattle.pt_puts.specs.Lines.{room_at}
+use Rattle.pt_puts.proofs.LineLaws.{lines-long}
+use Rattle.pt_puts.proofs.LineLaws.{are-empty, emptied-is}
 use Rattle.pt_rv_parts.specs.Process.{GathersBy, FilledAt, HaveRoom, IsLeast, most_in, taken_at}
 
 -- tokens at some place or at none

@@ -9,16 +9,18 @@ use Rattle.pt_value.specs.declared.token.Token.{Token}
 use Rattle.pt_reaction.specs.Spared.{Spared}
 use Rattle.pt_reaction.specs.Channels.{lists_of}
 use Rattle.pt_rv_laws.specs.Lawful.{HasPlaces}
-use Rattle.pt_process.specs.declared.process.StagedPut.{StagedPut}
-use Rattle.pt_process.specs.Process.{put_of, puts_in, room_at}
-use Rattle.pt_process.proofs.ProcessLaws.{lines-long, lacking-some, lacking-none}
+use Rattle.pt_puts.specs.declared.puts.StagedPut.{StagedPut}
+use Rattle.pt_puts.specs.Puts.{put_of, puts_in}
+use Rattle.pt_puts.specs.Lines.{room_at}
+use Rattle.pt_puts.proofs.LineLaws.{lines-long, lacking-some, lacking-none}
 use Rattle.pt_rv_work.specs.Core.{Standing, next_of, with_token, with_put_made, with_handed}
-use Rattle.pt_rv_parts.specs.declared.need.KeptNeed.{KeptNeed}
-use Rattle.pt_rv_parts.specs.declared.need.KeptNeed.TheVariants.{Over, Counts, One, Any}
+use Rattle.pt_puts.specs.declared.need.KeptNeed.{KeptNeed}
+use Rattle.pt_puts.specs.declared.need.KeptNeed.TheVariants.{Over, Counts, One, Any}
 use Rattle.pt_rv_parts.specs.declared.process.Event.{Event}
 use Rattle.pt_rv_parts.specs.declared.process.Event.TheVariants as event
 use Rattle.pt_rv_parts.specs.declared.process.Process.TheInside.{Inside}
-use Rattle.pt_rv_parts.specs.Process.{IsSound, GathersBy, Gathers, FilledAt, HaveRoom, DoesNext, MayTake, TakesAt, taken_at, counts_in, event_by, any_event_by, lacks_one, fires_by, need_in, got_in, row_if, seen_process, at_start, renewed}
+use Rattle.pt_rv_parts.specs.Process.{IsSound, GathersBy, Gathers, FilledAt, HaveRoom, DoesNext, MayTake, TakesAt, taken_at, counts_in, event_by, any_event_by, lacks_one, fires_by, got_in, row_if, seen_process, at_start, renewed}
+use Rattle.pt_puts.specs.Need.{need_in}
 use Rattle.pt_rv_parts.proofs.GatherLaws.{any-none, any-some, none-at, alone-at, filled-now, emptied-as, empty-as, room-empty, gathers-first, gathers-more}
 
 -- what it does next where it has no put to make

@@ -1,9 +1,4 @@
 pub mod Codes
 pub mod Process
-pub mod Targets
-pub mod Plan
 pub mod Flags
 pub mod Team
-pub mod Ends
-pub mod Inlet
-pub mod Meetings

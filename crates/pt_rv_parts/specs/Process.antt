@@ -8,20 +8,15 @@ use Rattle.pt_meaning.specs.Process as process
 use Rattle.pt_reaction.specs.Spared.{Spared}
 use Rattle.pt_reaction.specs.Channels.{lists_of}
 use Rattle.pt_value.specs.declared.token.Token.{Token}
-use Rattle.pt_process.specs.Process.{PutsFirst, puts_in, room_at}
+use Rattle.pt_puts.specs.Puts.{PutsFirst, puts_in}
+use Rattle.pt_puts.specs.Lines.{room_at}
+use Rattle.pt_puts.specs.Need.{need_in}
 use Rattle.pt_rv_work.specs.Core.{Standing, next_of}
-use Rattle.pt_rv_parts.specs.declared.need.KeptNeed.{KeptNeed}
-use Rattle.pt_rv_parts.specs.declared.need.KeptNeed.TheVariants.{Over, Counts, One, Any}
+use Rattle.pt_puts.specs.declared.need.KeptNeed.{KeptNeed}
+use Rattle.pt_puts.specs.declared.need.KeptNeed.TheVariants.{Over, Counts, One, Any}
 use Rattle.pt_rv_parts.specs.declared.process.Event.{Event}
 use Rattle.pt_rv_parts.specs.declared.process.Event.TheVariants as event
 use Rattle.pt_rv_parts.specs.declared.process.Process.TheInside.{Inside}
-
--- a need that is kept, among the definitions
-abbrev pub need_in : KeptNeed → Need
-need_in Over = machine.Over
-need_in (Counts ns) = machine.Counts ns
-need_in One = machine.Counts (1 ∷ [])
-need_in Any = machine.Any
 
 -- the lists that are lent, or those that grow
 abbrev pub row_if : Bool → Streams Token → List (Spared Token) → Streams Token

@@ -1,17 +1,15 @@
 ghost use Rattle.std.specs.Prelude.{◌≡◌, ℕ, ◌+◌, ◌<◌, ◌≤◌, length, IfOk};
 ghost use Rattle.pt_meaning.specs.Streams.{at};
 ghost use Rattle.pt_reaction.specs.Channels.{lists_of};
-ghost use Rattle.pt_process.specs.Process.{room_at, put_of, puts_in};
+ghost use Rattle.pt_puts.specs.Lines.{room_at};
 ghost use Rattle.pt_rv_parts.specs.Process.{taken_at};
 
-use crate::need::KeptNeed;
 use crate::process::Process;
 use crate::renew::{counts_of, least_room, room_of};
 use pt_firing::Tokens;
-use pt_process::StagedPut;
+use pt_puts::puts_again;
 use pt_reaction::Line;
 use std::alloc::{AllocError, Global};
-use std::collections::VecDeque;
 
 impl Process {
     ghost use Rattle.std.specs.Prelude.{◌≡◌, IfOk};
@@ -35,33 +33,6 @@ impl Process {
             puts,
         })
     }
-}
-
-/// The same puts again.
-pub(crate) fn puts_again(
-    alloc: Global,
-    puts: &VecDeque<StagedPut>,
-) -> Result<VecDeque<StagedPut>, AllocError>
-    ensures { IfOk result (λ copies. puts_in copies.items ≡ puts_in puts.now.items) }
-{
-    let mut copies = VecDeque::new(alloc);
-    for k in 0..puts.len() {
-        let copy = put_again(alloc, &puts[k])?;
-        match copies.push_back(copy) {
-            Ok(()) => {}
-            Err(_) => return Err(AllocError),
-        }
-    }
-    Ok(copies)
-}
-
-fn put_again(alloc: Global, put: &StagedPut) -> Result<StagedPut, AllocError>
-    ensures { IfOk result (λ copy. put_of copy ≡ put_of put.now) }
-{
-    Ok(StagedPut {
-        channel: put.channel,
-        token: put.token.copy(alloc)?,
-    })
 }
 
 /// The same lists again.

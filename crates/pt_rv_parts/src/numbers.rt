@@ -1,25 +1,20 @@
 // Firings of processes that take and give integers alone, of which no lists of tokens are made.
-ghost use Rattle.std.specs.Prelude.{◌≡◌, ◌<◌, ◌∷◌, [], length, IfSome, IsTrue, OnOk};
+ghost use Rattle.std.specs.Prelude.{◌≡◌, ◌∷◌, [], IfSome, IsTrue};
 ghost use Rattle.pt_firing.specs.IntInputs.{one_at_each};
-ghost use Rattle.pt_meaning.specs.Process.{puts_of};
 ghost use Rattle.pt_value.specs.declared.token.Token.TheVariants.{Int};
-ghost use Rattle.pt_process.specs.Process.{puts_in};
 
 use crate::process::Process;
-use crate::rv_plan::Plan;
-use crate::staged::stage_token;
 use pt_firing::{IntInputs, Need, Tokens};
-use pt_process::StagedPut;
+use pt_puts::StagedPut;
 use pt_value::Token;
 use std::alloc::{AllocError, Global};
-use std::collections::VecDeque;
 use std::slice;
 
 impl Process {
     ghost use Rattle.std.specs.Prelude.{◌≡◌, [], ◌∷◌, length, true, IfSome, OnOk, OnErr};
     ghost use Rattle.pt_firing.specs.Need.{need_of};
     ghost use Rattle.pt_rv_laws.specs.Lawful.{HasPlaces};
-    ghost use Rattle.pt_process.specs.Process.{put_of};
+    ghost use Rattle.pt_puts.specs.Puts.{put_of};
     ghost use Rattle.pt_rv_work.specs.Core.{once_fired};
 
     /// What it has gathered, where that is one integer at each place. `row` is a buffer. `None` says nothing of it.
@@ -67,23 +62,6 @@ impl Process {
         }
         renewed
     }
-}
-
-/// Stages the puts of a process that gave an integer on its one port.
-pub fn stage_number(
-    alloc: Global,
-    staged: &mut VecDeque<StagedPut>,
-    plan: &Plan,
-    process: usize,
-    number: i64,
-) -> Result<(), AllocError>
-    requires { process < length plan.now.plan.net.places }
-    ensures { OnOk result (puts_in staged.new.items ≡ puts_of plan.now.plan.net.sources process 0 ((Int number ∷ []) ∷ [])) }
-{
-    staged.clear();
-    let token = Token::Int(number);
-    stage_token(alloc, staged, &token, plan.fan(process, 0))?;
-    Ok(())
 }
 
 /// What is in these lists, where each has one integer. `row` is a buffer for several.

@@ -2,12 +2,12 @@ ghost use Rattle.std.specs.Prelude.{◌≡◌, ℕ, ◌+◌, ◌<◌, ◌≤◌,
 ghost use Rattle.pt_meaning.specs.Streams.{at, change_at};
 ghost use Rattle.pt_meaning.specs.Process.{lacking};
 ghost use Rattle.pt_reaction.specs.Channels.{lists_of};
-ghost use Rattle.pt_process.specs.Process.{PutsFirst, puts_in, room_at};
+ghost use Rattle.pt_puts.specs.Puts.{PutsFirst, puts_in};
+ghost use Rattle.pt_puts.specs.Lines.{room_at};
 ghost use Rattle.pt_rv_parts.specs.Process.{event_by, any_event_by, lacks_one};
 
-use crate::need::KeptNeed;
 use pt_firing::{Inputs, Tokens};
-use pt_process::StagedPut;
+use pt_puts::{KeptNeed, StagedPut, first_put};
 use pt_reaction::Line;
 use pt_value::Token;
 use std::collections::VecDeque;
@@ -100,7 +100,7 @@ impl Process {
     ghost use Rattle.std.specs.Prelude.{◌≡◌, ◌<◌, [], length, slice_get, true, false, not, Some};
     ghost use Rattle.pt_meaning.specs.Machine.{Any};
     ghost use Rattle.pt_meaning.specs.Process.{at_rest};
-    ghost use Rattle.pt_process.specs.Process.{PutsFirst, put_of};
+    ghost use Rattle.pt_puts.specs.Puts.{PutsFirst, put_of};
     ghost use Rattle.pt_rv_work.specs.Core.{next_of, with_token, with_put_made, with_handed};
     ghost use Rattle.pt_rv_parts.specs.Process.{DoesNext, MayTake};
 
@@ -213,18 +213,6 @@ impl Process {
     {
         Inputs::of(&self.row)
     }
-}
-
-/// The channel of the first of these puts, if there is one.
-#[inline(always)]
-pub(crate) fn first_put(puts: &VecDeque<StagedPut>) -> Option<u32>
-    ensures { PutsFirst (puts_in puts.now.items) result }
-{
-    let waiting = puts.len();
-    if waiting == 0 {
-        return None;
-    }
-    Some(puts[0].channel)
 }
 
 /// What comes of the first place that lacks a token.

@@ -1,14 +1,14 @@
 ghost use Rattle.std.specs.Prelude.{◌≡◌, ℕ, ◌<◌, ◌≤◌, [], ◌∷◌, length, get_or, nat_eq, max, false, true, IfOk, OnOk, Some, None};
 ghost use Rattle.pt_meaning.specs.Streams.{at};
 ghost use Rattle.pt_reaction.specs.Channels.{lists_of};
-ghost use Rattle.pt_process.specs.Process.{room_at};
+ghost use Rattle.pt_puts.specs.Lines.{room_at};
 ghost use Rattle.pt_meaning.specs.Machine as machine;
-ghost use Rattle.pt_rv_parts.specs.Process.{HaveRoom, FilledAt, IsLeast, counts_in, need_in};
+ghost use Rattle.pt_rv_parts.specs.Process.{HaveRoom, FilledAt, IsLeast, counts_in};
+ghost use Rattle.pt_puts.specs.Need.{need_in};
 
-use crate::need::KeptNeed;
 use crate::process::Process;
 use pt_firing::{Counts, Need, Tokens};
-use pt_process::StagedPut;
+use pt_puts::{KeptNeed, StagedPut};
 use pt_reaction::Line;
 use std::alloc::{AllocError, Global};
 use std::collections::VecDeque;
@@ -19,9 +19,10 @@ impl Process {
     ghost use Rattle.pt_meaning.specs.Machine as machine;
     ghost use Rattle.pt_firing.specs.Need.{need_of};
     ghost use Rattle.pt_rv_laws.specs.Lawful.{HasPlaces};
-    ghost use Rattle.pt_process.specs.Process.{puts_in};
+    ghost use Rattle.pt_puts.specs.Puts.{puts_in};
     ghost use Rattle.pt_rv_work.specs.Core.{once_fired};
-    ghost use Rattle.pt_rv_parts.specs.Process.{need_in, at_start, renewed, with_puts};
+    ghost use Rattle.pt_puts.specs.Need.{need_in};
+    ghost use Rattle.pt_rv_parts.specs.Process.{at_start, renewed, with_puts};
 
     /// A process at its start.
     pub fn new(

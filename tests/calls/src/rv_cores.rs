@@ -8,8 +8,9 @@ use crate::pn_cores::{self, counts};
 use crate::scripts::{self, Subject};
 use crate::tags;
 use pt_firing::{Ask, Counts, Meeting, Need, Outputs};
+use pt_puts::KeptNeed;
 use pt_rv::Core;
-use pt_rv_parts::{CorePlan, KeptNeed};
+use pt_rv_plan::CorePlan;
 use std::alloc::{AllocError, Global};
 
 /// Answers a script of calls on a core of Rendezvous, behind the net that it is made of.

@@ -1,8 +1,8 @@
 use Rattle.std.proofs.Common.{◌≡◌, List, map, refl, sym, subst, IfOk}
 use Rattle.pt_core.specs.Source.{source_of}
 use Rattle.pt_rv_laws.specs.State.{Processes, started}
-use Rattle.pt_rv_parts.specs.declared.plan.CorePlan.{CorePlan}
-use Rattle.pt_rv_parts.specs.Plan.{processes_of, AreSound}
+use Rattle.pt_rv_plan.specs.declared.plan.CorePlan.{CorePlan}
+use Rattle.pt_rv_plan.specs.Plan.{processes_of, AreSound}
 use Rattle.pt_node.specs.Shown.{shown}
 use Rattle.pt_node.specs.View.{Tree}
 use Rattle.pt_trees.specs.Composite.{trees_of}

@@ -1,6 +1,6 @@
 use Rattle.std.proofs.Common.{◌≡◌, Bool, Option, List, map, sym, ap, ◌∙◌, subst}
 use Rattle.pt_rv_laws.specs.State.{started}
-use Rattle.pt_rv_parts.specs.Plan.{AreSound}
+use Rattle.pt_rv_plan.specs.Plan.{AreSound}
 use Rattle.pt_records.specs.Kept.{Made}
 use Rattle.pt_directors.specs.Directors.{Director, of_rendezvous}
 use Rattle.pt_node.specs.declared.node.Node.{Node}

@@ -1,7 +1,8 @@
 use Rattle.std.proofs.Common.{length, ap, sym, subst, ◌∙◌}
 use Rattle.pt_firing.specs.Need.{need_of}
 use Rattle.pt_pn_laws.specs.Lawful.{HasPlaces}
-use Rattle.pt_process.specs.Process.{Standing, puts_in, once_fired}
+use Rattle.pt_process.specs.Process.{Standing, once_fired}
+use Rattle.pt_puts.specs.Puts.{puts_in}
 use Rattle.pt_pn_work.specs.Core.{nobody}
 use Rattle.pt_pn_work.proofs.CoreLaws.{change-set, set-same, read-as}
 use Rattle.pt_pn.proofs.CoreLaws.{where-ok, where-err}

@@ -2,8 +2,9 @@ use Rattle.std.proofs.Common.{ℕ, ◌+◌, ◌-◌, ◌≤◌, List, [], ◌∷
 use Rattle.pt_meaning.specs.Process.{Put}
 use Rattle.pt_recv.specs.Lines.{list_at, spare_at}
 use Rattle.pt_value.specs.declared.token.Token.{Token}
-use Rattle.pt_process.specs.Process.{put_of, puts_in, count_on}
-use Rattle.pt_process.proofs.ProcessLaws.{no-staged}
+use Rattle.pt_puts.specs.Puts.{put_of, puts_in}
+use Rattle.pt_process.specs.Process.{count_on}
+use Rattle.pt_puts.proofs.PutLaws.{no-staged}
 use Rattle.pt_pn_work.proofs.CoreLaws.{room-less}
 use Rattle.pt_pn.specs.Puts.{all_put}
 use Rattle.pt_pn.specs.Noted.{tokens_came}

@@ -1,6 +1,7 @@
 use Rattle.std.proofs.Common.{◌≡◌, ℕ, ◌+◌, ◌≤◌, length, get_or}
 use Rattle.pt_recv.specs.Lines.{spare_at}
-use Rattle.pt_process.specs.Process.{puts_in, count_on}
+use Rattle.pt_puts.specs.Puts.{puts_in}
+use Rattle.pt_process.specs.Process.{count_on}
 use Rattle.pt_pn.specs.Puts.{all_put}
 use Rattle.pt_pn.specs.Noted.{tokens_came}
 use Rattle.pt_pn.proofs.puts.put_all.Given as goal

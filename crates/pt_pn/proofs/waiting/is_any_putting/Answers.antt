@@ -1,5 +1,6 @@
 use Rattle.std.proofs.Common.{get_or, subst, sym, ◌∙◌, arith}
-use Rattle.pt_process.specs.Process.{Standing, PutsFirst}
+use Rattle.pt_process.specs.Process.{Standing}
+use Rattle.pt_puts.specs.Puts.{PutsFirst}
 use Rattle.pt_pn_work.specs.Core.{nobody}
 use Rattle.pt_pn_work.proofs.CoreLaws.{read-as}
 use Rattle.pt_pn.proofs.WaitLaws.{none-next, none-put, some-first, none-first}

@@ -1,6 +1,7 @@
 use Rattle.std.proofs.Common.{◌∙◌, subst, arith}
 use Rattle.std.proofs.lemmas.List.{take_all}
-use Rattle.pt_process.specs.Process.{Standing, PutsFirst}
+use Rattle.pt_process.specs.Process.{Standing}
+use Rattle.pt_puts.specs.Puts.{PutsFirst}
 use Rattle.pt_pn_work.specs.Core.{nobody, puts_of_all}
 use Rattle.pt_pn_work.proofs.CoreLaws.{read-as}
 use Rattle.pt_pn.specs.Waiting.{MarksWaited}

@@ -1,7 +1,8 @@
 use Rattle.std.proofs.Common.{[], ◌∷◌, length, ap, subst, sym, ◌∙◌, arith, length-append}
 use Rattle.std.proofs.lemmas.List.{take_all}
 use Rattle.pt_reaction.specs.Channels.{lists_of}
-use Rattle.pt_process.proofs.CopyLaws.{HasRoomAt, lines-next, rooms-next}
+use Rattle.pt_process.proofs.CopyLaws.{HasRoomAt, rooms-next}
+use Rattle.pt_puts.proofs.LineLaws.{lines-next}
 use Rattle.pt_process.proofs.copied.lines_again.Goals as goal
 
 pub loop-place-preserved : goal.loop-place-preserved

@@ -1,5 +1,5 @@
-use Rattle.pt_process.specs.Plan.{row_in}
-use Rattle.pt_process.proofs.FanLaws.{row-then}
+use Rattle.pt_puts.specs.Fans.{row_in}
+use Rattle.pt_puts.proofs.FanLaws.{row-then}
 use Rattle.pt_process.proofs.fans.add_fan.Goals as goal
 
 pub returns : goal.returns

@@ -1,4 +1,4 @@
-use Rattle.pt_process.specs.Plan.{fans_in}
+use Rattle.pt_puts.specs.Fans.{fans_in}
 use Rattle.pt_process.proofs.FanLaws.{fans-own}
 use Rattle.pt_process.proofs.fans.fan_out.Goals as goal
 

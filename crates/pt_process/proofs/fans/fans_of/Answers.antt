@@ -1,8 +1,9 @@
 use Rattle.std.proofs.Common.{get_or, ◌∙◌, sym, subst}
 use Rattle.pt_core.specs.declared.source.Source.TheVariants.{Own}
 use Rattle.pt_core.specs.Source.{source_of}
-use Rattle.pt_process.specs.Plan.{fans_in, IsNamed}
-use Rattle.pt_process.proofs.FanLaws.{named-at, fans-next, fans-all}
+use Rattle.pt_puts.specs.Fans.{fans_in, IsNamed}
+use Rattle.pt_puts.proofs.FanLaws.{named-at}
+use Rattle.pt_process.proofs.FanLaws.{fans-next, fans-all}
 use Rattle.pt_process.proofs.fans.fans_of.Goals as goal
 
 pub fan_out-requires : goal.fan_out-requires

@@ -1,6 +1,7 @@
 use Rattle.std.proofs.Common.{◌≡◌, length, map, take}
 use Rattle.pt_core.specs.Source.{source_of}
-use Rattle.pt_process.specs.Plan.{AreFans, fans_in}
+use Rattle.pt_process.specs.Plan.{AreFans}
+use Rattle.pt_puts.specs.Fans.{fans_in}
 use Rattle.pt_process.proofs.fans.fans_of.Given as goal
 
 abbrev pub invariant-loop-c : goal.invariant-loop-c

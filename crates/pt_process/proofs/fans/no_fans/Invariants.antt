@@ -1,5 +1,5 @@
 use Rattle.std.proofs.Common.{◌≡◌, ℕ, [], length, get_or}
-use Rattle.pt_process.specs.Plan.{fans_in}
+use Rattle.pt_puts.specs.Fans.{fans_in}
 use Rattle.pt_process.proofs.fans.no_fans.Given as goal
 
 abbrev pub invariant-loop : goal.invariant-loop

@@ -1,7 +1,7 @@
 use Rattle.std.proofs.Common.{ℕ, ◌∷◌, ◌++◌, [], set, get_or, ap, sym, ◌∙◌, arith, Vec, Global}
 use Rattle.std.proofs.lemmas.List.{map-set, get_or-map, length-map}
-use Rattle.pt_process.specs.Plan.{row_in}
-use Rattle.pt_process.proofs.FanLaws.{port-fans}
+use Rattle.pt_puts.specs.Fans.{row_in}
+use Rattle.pt_puts.proofs.FanLaws.{port-fans}
 use Rattle.pt_process.proofs.fans.push_channel.Goals as goal
 
 pub returns : goal.returns

@@ -1,5 +1,5 @@
 use Rattle.std.proofs.Common.{◌≡◌, ℕ, ◌≤◌, [], length, get_or}
-use Rattle.pt_process.specs.Plan.{row_in}
+use Rattle.pt_puts.specs.Fans.{row_in}
 use Rattle.pt_process.proofs.fans.widen.Given as goal
 
 abbrev pub invariant-loop : goal.invariant-loop

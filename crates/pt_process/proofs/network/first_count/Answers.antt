@@ -1,5 +1,6 @@
 use Rattle.std.proofs.Common.{length, ap, sym, ◌∙◌}
-use Rattle.pt_process.proofs.NetworkLaws.{at-read, at-past}
+use Rattle.pt_process.proofs.NetworkLaws.{at-read}
+use Rattle.pt_puts.proofs.LineLaws.{at-past}
 use Rattle.pt_process.proofs.network.first_count.Goals as goal
 
 pub returns-then-channel-first : goal.returns-then-channel-first

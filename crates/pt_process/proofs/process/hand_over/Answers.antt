@@ -1,5 +1,5 @@
 use Rattle.std.proofs.Common.{ℕ, ◌<◌, length, ◌∙◌, arith, length-set}
-use Rattle.pt_process.proofs.ProcessLaws.{row-more, row-all, behind-taken, line-behind}
+use Rattle.pt_puts.proofs.LineLaws.{row-more, row-all, behind-taken, line-behind}
 use Rattle.pt_process.proofs.process.hand_over.Goals as goal
 
 pub loop-place-preserved : goal.loop-place-preserved

@@ -1,5 +1,5 @@
 use Rattle.std.proofs.Common.{◌∙◌, arith}
-use Rattle.pt_process.proofs.ProcessLaws.{list-set, list-other, spare-set, spare-other}
+use Rattle.pt_puts.proofs.LineLaws.{list-set, list-other, spare-set, spare-other}
 use Rattle.pt_process.proofs.renew.make_room.Goals as goal
 
 pub returns-clause-empty : goal.returns-clause-empty

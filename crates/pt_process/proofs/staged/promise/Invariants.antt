@@ -1,6 +1,7 @@
 use Rattle.std.proofs.Common.{◌≡◌, ℕ, ◌+◌, ◌≤◌, length, take, get_or}
 use Rattle.pt_recv.specs.Lines.{spare_at}
-use Rattle.pt_process.specs.Process.{puts_in, count_on}
+use Rattle.pt_puts.specs.Puts.{puts_in}
+use Rattle.pt_process.specs.Process.{count_on}
 use Rattle.pt_process.proofs.staged.promise.Given as goal
 
 abbrev pub invariant-loop-k : goal.invariant-loop-k

@@ -1,6 +1,7 @@
 use Rattle.std.proofs.Common.{ap, ◌++◌, arith}
 use Rattle.pt_core.specs.Source.{source_of}
-use Rattle.pt_process.specs.Process.{puts_in, arrivals}
+use Rattle.pt_puts.specs.Puts.{puts_in}
+use Rattle.pt_process.specs.Process.{arrivals}
 use Rattle.pt_process.proofs.StagedLaws.{arrivals-more, arrivals-all}
 use Rattle.pt_process.proofs.staged.stage_inputs.Goals as goal
 

@@ -1,5 +1,6 @@
 use Rattle.std.proofs.Common.{◌≡◌, ◌++◌, drop}
-use Rattle.pt_process.specs.Process.{puts_in, arrivals}
+use Rattle.pt_puts.specs.Puts.{puts_in}
+use Rattle.pt_process.specs.Process.{arrivals}
 use Rattle.pt_process.proofs.staged.stage_inputs.Given as goal
 
 abbrev pub invariant-loop-channel : goal.invariant-loop-channel

@@ -1,7 +1,7 @@
 use Rattle.std.proofs.Common.{ap, ap₂, ◌++◌, ◌∙◌, arith}
 use Rattle.pt_meaning.specs.Process.{puts_of, puts_of_port}
-use Rattle.pt_process.specs.Process.{puts_in}
-use Rattle.pt_process.proofs.StagedLaws.{outputs-more, outputs-all}
+use Rattle.pt_puts.specs.Puts.{puts_in}
+use Rattle.pt_puts.proofs.PutLaws.{outputs-more, outputs-all}
 use Rattle.pt_process.proofs.staged.stage_outputs.Goals as goal
 
 pub loop-port-init : goal.loop-port-init

@@ -1,6 +1,6 @@
 use Rattle.std.proofs.Common.{◌≡◌, ◌++◌, drop}
 use Rattle.pt_meaning.specs.Process.{puts_of}
-use Rattle.pt_process.specs.Process.{puts_in}
+use Rattle.pt_puts.specs.Puts.{puts_in}
 use Rattle.pt_process.proofs.staged.stage_outputs.Given as goal
 
 abbrev pub invariant-loop-port : goal.invariant-loop-port

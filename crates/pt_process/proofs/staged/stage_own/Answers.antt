@@ -1,7 +1,7 @@
 use Rattle.std.proofs.Common.{[], ◌∷◌, ◌++◌, append-nil, ap, sym, ◌∙◌, arith}
 use Rattle.pt_meaning.specs.Process.{puts_of_port}
-use Rattle.pt_process.specs.Process.{puts_in}
-use Rattle.pt_process.proofs.NetworkLaws.{at-past}
+use Rattle.pt_puts.specs.Puts.{puts_in}
+use Rattle.pt_puts.proofs.LineLaws.{at-past}
 use Rattle.pt_process.proofs.staged.stage_own.Goals as goal
 
 pub returns-then-port-places : goal.returns-then-port-places

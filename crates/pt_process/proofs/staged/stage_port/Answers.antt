@@ -1,5 +1,5 @@
-use Rattle.pt_process.specs.Process.{puts_in}
-use Rattle.pt_process.proofs.StagedLaws.{port-more}
+use Rattle.pt_puts.specs.Puts.{puts_in}
+use Rattle.pt_puts.proofs.PutLaws.{port-more}
 use Rattle.pt_process.proofs.staged.stage_port.Goals as goal
 
 pub loop-token-preserved : goal.loop-token-preserved

@@ -1,6 +1,6 @@
 use Rattle.std.proofs.Common.{◌≡◌, ◌++◌, take}
 use Rattle.pt_meaning.specs.Process.{puts_of_port}
-use Rattle.pt_process.specs.Process.{puts_in}
+use Rattle.pt_puts.specs.Puts.{puts_in}
 use Rattle.pt_process.proofs.staged.stage_port.Given as goal
 
 abbrev pub invariant-loop-token : goal.invariant-loop-token

@@ -1,6 +1,6 @@
 use Rattle.std.proofs.Common.{get_or, refl}
-use Rattle.pt_process.specs.Process.{puts_in}
-use Rattle.pt_process.proofs.StagedLaws.{each-more}
+use Rattle.pt_puts.specs.Puts.{puts_in}
+use Rattle.pt_puts.proofs.PutLaws.{each-more}
 use Rattle.pt_process.proofs.staged.stage_token.Goals as goal
 
 pub loop-channel-preserved : goal.loop-channel-preserved

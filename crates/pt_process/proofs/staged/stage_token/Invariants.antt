@@ -1,6 +1,6 @@
 use Rattle.std.proofs.Common.{◌≡◌, ◌++◌, take}
 use Rattle.pt_meaning.specs.Process.{to_each}
-use Rattle.pt_process.specs.Process.{puts_in}
+use Rattle.pt_puts.specs.Puts.{puts_in}
 use Rattle.pt_process.proofs.staged.stage_token.Given as goal
 
 abbrev pub invariant-loop-channel : goal.invariant-loop-channel

@@ -1,5 +1,5 @@
 use Rattle.std.proofs.Common.{sym, arith}
-use Rattle.pt_process.proofs.NetworkLaws.{at-past}
+use Rattle.pt_puts.proofs.LineLaws.{at-past}
 use Rattle.pt_rv.proofs.ends.list_at.Goals as goal
 
 pub returns-then-port-places : goal.returns-then-port-places

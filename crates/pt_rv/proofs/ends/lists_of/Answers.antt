@@ -3,7 +3,7 @@ use Rattle.std.proofs.lemmas.List.{take_all, length-map, length-take-le}
 use Rattle.pt_meaning.specs.Streams.{at}
 use Rattle.pt_value.specs.declared.token.Token.{Token}
 use Rattle.pt_reaction.specs.Spared.{Spared}
-use Rattle.pt_process.proofs.ProcessLaws.{behind-taken, line-behind}
+use Rattle.pt_puts.proofs.LineLaws.{behind-taken, line-behind}
 use Rattle.pt_rv.specs.Parties.{outputs_of}
 use Rattle.pt_rv.proofs.ends.lists_of.Goals as goal
 

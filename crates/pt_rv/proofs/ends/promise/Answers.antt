@@ -1,6 +1,6 @@
 use Rattle.std.proofs.Common.{refl, arith}
 use Rattle.std.proofs.lemmas.List.{length-map}
-use Rattle.pt_process.specs.Process.{put_of, puts_in}
+use Rattle.pt_puts.specs.Puts.{put_of, puts_in}
 use Rattle.pt_rv.proofs.EndLaws.{outputs-counted, promised-one, promised-less}
 use Rattle.pt_rv.proofs.ends.promise.Goals as goal
 

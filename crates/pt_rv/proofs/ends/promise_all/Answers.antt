@@ -1,6 +1,6 @@
 use Rattle.std.proofs.Common.{ℕ, ◌+◌, ◌<◌, ◌≤◌, length, subst, ◌∙◌, arith}
 use Rattle.std.proofs.lemmas.List.{take_all}
-use Rattle.pt_process.specs.Process.{puts_in}
+use Rattle.pt_puts.specs.Puts.{puts_in}
 use Rattle.pt_rv.specs.Parties.{weight_of, on, spare_at}
 use Rattle.pt_rv.proofs.EndLaws.{outputs-counted, weight-more}
 use Rattle.pt_rv.proofs.ends.promise_all.Goals as goal

@@ -1,5 +1,5 @@
 use Rattle.std.proofs.Common.{◌≡◌, ℕ, ◌+◌, ◌<◌, ◌≤◌, length, take}
-use Rattle.pt_process.specs.Process.{puts_in}
+use Rattle.pt_puts.specs.Puts.{puts_in}
 use Rattle.pt_rv.specs.Parties.{outputs_of, weight_of, on, spare_at}
 use Rattle.pt_rv.proofs.ends.promise_all.Given as goal
 

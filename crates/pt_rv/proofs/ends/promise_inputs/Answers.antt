@@ -1,6 +1,6 @@
 use Rattle.std.proofs.Common.{◌+◌, [], ◌∷◌, ◌++◌, take, refl, subst, ◌∙◌, arith}
 use Rattle.std.proofs.lemmas.List.{take_all}
-use Rattle.pt_process.specs.Process.{puts_in}
+use Rattle.pt_puts.specs.Puts.{puts_in}
 use Rattle.pt_rv.specs.Ends.{PromisedMore, comings_of}
 use Rattle.pt_rv.proofs.EndLaws.{promised-none, promised-then, promised-weak, comings-more}
 use Rattle.pt_rv.proofs.ends.promise_inputs.Goals as goal

@@ -1,5 +1,5 @@
 use Rattle.std.proofs.Common.{[], ◌∷◌, refl, arith}
-use Rattle.pt_process.specs.Process.{put_of}
+use Rattle.pt_puts.specs.Puts.{put_of}
 use Rattle.pt_rv.proofs.EndLaws.{outputs-counted, promised-one, promised-less}
 use Rattle.pt_rv.proofs.ends.promise_put.Goals as goal
 

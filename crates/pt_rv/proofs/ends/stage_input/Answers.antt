@@ -1,6 +1,6 @@
 use Rattle.std.proofs.Common.{ap, ap₂, ◌∙◌}
 use Rattle.pt_meaning.specs.Process.{puts_of_port}
-use Rattle.pt_rv_parts.specs.Ends.{Arriving}
+use Rattle.pt_rv_plan.specs.Ends.{Arriving}
 use Rattle.pt_rv_parts.proofs.ListLaws.{where-ok}
 use Rattle.pt_rv.specs.Ends.{no_inlet}
 use Rattle.pt_rv.proofs.EndLaws.{input-same, inlet-here, inlet-other}

@@ -3,8 +3,8 @@ use Rattle.std.proofs.lemmas.List.{length-map}
 use Rattle.pt_meaning.specs.Machine.{Over}
 use Rattle.pt_rv_laws.specs.State.{Processes}
 use Rattle.pt_rv_laws.specs.Lawful.{HasPlaces}
-use Rattle.pt_rv_parts.specs.Plan.{AreSound}
-use Rattle.pt_rv_parts.specs.Process.{need_in}
+use Rattle.pt_rv_plan.specs.Plan.{AreSound}
+use Rattle.pt_puts.specs.Need.{need_in}
 use Rattle.pt_rv_parts.specs.Team.{NoneHanded}
 use Rattle.pt_rv.specs.Fresh.{starting}
 use Rattle.pt_rv.specs.Parties.{outputs_of}

@@ -3,7 +3,8 @@ use Rattle.std.specs.Prelude.{IfOk}
 use Rattle.pt_value.specs.declared.token.Token.{Token}
 use Rattle.pt_rv_laws.specs.Lawful.{HasPlaces}
 use Rattle.pt_rv_work.specs.Core.{Standing}
-use Rattle.pt_rv_parts.specs.Process.{need_in, at_start}
+use Rattle.pt_puts.specs.Need.{need_in}
+use Rattle.pt_rv_parts.specs.Process.{at_start}
 use Rattle.pt_rv.proofs.fresh.process_of.Goals as goal
 
 pub new-requires : goal.new-requires

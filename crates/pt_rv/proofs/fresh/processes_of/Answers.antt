@@ -2,8 +2,8 @@ use Rattle.std.proofs.Common.{◌≡◌, ℕ, zero, suc, ◌<◌, List, [], ◌�
 use Rattle.std.proofs.lemmas.List.{take_all, length-map}
 use Rattle.pt_meaning.specs.Machine.{Over}
 use Rattle.pt_rv_laws.specs.Lawful.{HasPlaces}
-use Rattle.pt_rv_parts.specs.declared.need.KeptNeed.{KeptNeed}
-use Rattle.pt_rv_parts.specs.Process.{need_in}
+use Rattle.pt_puts.specs.declared.need.KeptNeed.{KeptNeed}
+use Rattle.pt_puts.specs.Need.{need_in}
 use Rattle.pt_rv.specs.Fresh.{starting}
 use Rattle.pt_rv.proofs.FreshLaws.{starting-more}
 use Rattle.pt_rv.proofs.fresh.processes_of.Goals as goal

@@ -1,5 +1,5 @@
 use Rattle.std.proofs.Common.{◌≡◌, take, map}
-use Rattle.pt_rv_parts.specs.Process.{need_in}
+use Rattle.pt_puts.specs.Need.{need_in}
 use Rattle.pt_rv.specs.Fresh.{starting}
 use Rattle.pt_rv.proofs.fresh.processes_of.Given as goal
 

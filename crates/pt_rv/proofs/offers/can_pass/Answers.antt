@@ -1,6 +1,6 @@
 use Rattle.std.proofs.Common.{◌&&◌, ap, sym, ◌∙◌}
 use Rattle.pt_meaning.specs.Meetings.{target_from}
-use Rattle.pt_rv_parts.specs.Plan.{target_of}
+use Rattle.pt_rv_plan.specs.Plan.{target_of}
 use Rattle.pt_rv_work.specs.Core.{gets_there}
 use Rattle.pt_rv.specs.Parties.{moving_in}
 use Rattle.pt_rv.proofs.CoreLaws.{ends-there}

@@ -1,7 +1,7 @@
 use Rattle.std.proofs.Common.{get_or, ap, sym, subst, ◌∙◌}
 use Rattle.pt_rv_work.specs.Core.{nobody, gets_there}
-use Rattle.pt_rv_parts.specs.declared.targets.Target.{Target}
-use Rattle.pt_rv_parts.specs.Plan.{target_of}
+use Rattle.pt_rv_plan.specs.declared.targets.Target.{Target}
+use Rattle.pt_rv_plan.specs.Plan.{target_of}
 use Rattle.pt_rv.specs.Parties.{EndsThere, moving_in}
 use Rattle.pt_rv.proofs.OfferLaws.{gets-so}
 use Rattle.pt_rv.proofs.offers.is_received.Goals as goal

@@ -1,7 +1,7 @@
 use Rattle.std.proofs.Common.{Some, sym, subst, arith}
 use Rattle.pt_core.specs.declared.source.Source.{Source}
 use Rattle.pt_core.specs.Source.{source_of}
-use Rattle.pt_process.specs.Process.{PutsFirst}
+use Rattle.pt_puts.specs.Puts.{PutsFirst}
 use Rattle.pt_rv_work.specs.Core.{puts_at}
 use Rattle.pt_rv.specs.Parties.{IsThere, moving_in}
 use Rattle.pt_rv.proofs.EndLaws.{input-at}

@@ -1,6 +1,6 @@
 use Rattle.std.proofs.Common.{◌≡◌, ℕ, zero, suc, ◌+◌, ◌<◌, List, [], ◌∷◌, ◌++◌, length, take, get_or, ap, ap₂, sym, ◌∙◌, arith, add-one}
 use Rattle.std.proofs.lemmas.List.{take_all}
-use Rattle.pt_rv_parts.specs.Ends.{Arriving}
+use Rattle.pt_rv_plan.specs.Ends.{Arriving}
 use Rattle.pt_rv.specs.Parties.{inputs_of}
 use Rattle.pt_rv.proofs.EndLaws.{inputs-behind}
 use Rattle.pt_rv.proofs.parties.inlets_again.Goals as goal

@@ -1,8 +1,8 @@
 use Rattle.std.proofs.Common.{◌≡◌, ℕ, ◌+◌, ap, sym, subst, ◌∙◌, arith}
 use Rattle.pt_value.specs.declared.token.Token.{Token}
 use Rattle.pt_rv_work.specs.Core.{Moving, received_by}
-use Rattle.pt_rv_parts.specs.declared.targets.Target.{Target}
-use Rattle.pt_rv_parts.specs.Plan.{target_of}
+use Rattle.pt_rv_plan.specs.declared.targets.Target.{Target}
+use Rattle.pt_rv_plan.specs.Plan.{target_of}
 use Rattle.pt_rv.specs.Parties.{MayReceive, inputs_of, outputs_of, moving_in, spare_at, less_at}
 use Rattle.pt_rv.proofs.passing.deliver.Goals as goal
 

@@ -1,9 +1,9 @@
 use Rattle.std.proofs.Common.{◌≡◌, ◌+◌, ◌<◌, ap, sym, subst, Some, length, ◌∙◌}
 use Rattle.pt_core.specs.Source.{source_of}
 use Rattle.pt_value.specs.declared.token.Token.{Token}
-use Rattle.pt_process.specs.Process.{put_of}
+use Rattle.pt_puts.specs.Puts.{put_of}
 use Rattle.pt_rv_work.specs.Core.{Moving, passed_to}
-use Rattle.pt_rv_parts.specs.Plan.{target_of}
+use Rattle.pt_rv_plan.specs.Plan.{target_of}
 use Rattle.pt_rv.specs.Parties.{moving_in, waiting, each, spare_at}
 use Rattle.pt_rv.proofs.PassLaws.{channel-there, source-there, sender-free, some-put, passed-is, outlet-room, waits-passed, fit-passed, receives-still}
 use Rattle.pt_rv.proofs.ShapeLaws.{SameShape, sent-shape, passed-shape, shape-free, takes-still}

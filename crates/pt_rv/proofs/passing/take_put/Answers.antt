@@ -2,7 +2,7 @@ use Rattle.std.proofs.Common.{◌≡◌, ◌<◌, Some, length, ap, sym, subst, 
 use Rattle.std.specs.Prelude.{slice_get}
 use Rattle.pt_core.specs.declared.source.Source.{Source}
 use Rattle.pt_core.specs.Source.{source_of}
-use Rattle.pt_process.specs.Process.{put_of}
+use Rattle.pt_puts.specs.Puts.{put_of}
 use Rattle.pt_value.specs.declared.token.Token.{Token}
 use Rattle.pt_rv_work.specs.Core.{Moving, puts_at, sent_by}
 use Rattle.pt_rv.specs.Parties.{IsSender, inputs_of, outputs_of, moving_in}

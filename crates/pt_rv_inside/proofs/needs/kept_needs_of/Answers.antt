@@ -1,6 +1,6 @@
 use Rattle.std.proofs.Common.{List, ap, ◌∙◌, map}
-use Rattle.pt_rv_parts.specs.declared.need.KeptNeed.{KeptNeed}
-use Rattle.pt_rv_parts.specs.Process.{need_in}
+use Rattle.pt_puts.specs.declared.need.KeptNeed.{KeptNeed}
+use Rattle.pt_puts.specs.Need.{need_in}
 use Rattle.pt_rv_inside.proofs.LoopLaws.{needs-more}
 use Rattle.pt_rv_inside.proofs.needs.kept_needs_of.Goals as goal
 

@@ -2,8 +2,8 @@ use Rattle.std.proofs.Common.{◌≡◌, [], ◌∷◌, ◌≤◌, ◌+◌, max,
 use Rattle.std.proofs.lemmas.List.{take_all}
 use Rattle.pt_meaning.specs.Streams.{at}
 use Rattle.pt_reaction.specs.Channels.{lists_of}
-use Rattle.pt_process.proofs.CopyLaws.{lines-next}
-use Rattle.pt_process.specs.Process.{room_at}
+use Rattle.pt_puts.proofs.LineLaws.{lines-next}
+use Rattle.pt_puts.specs.Lines.{room_at}
 use Rattle.pt_rv_parts.proofs.CopyLaws.{HasRoomAt, rooms-next}
 use Rattle.pt_rv_parts.proofs.GatherLaws.{taken-under}
 use Rattle.pt_rv_parts.proofs.copied.lines_again.Goals as goal

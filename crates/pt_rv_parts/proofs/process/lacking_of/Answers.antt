@@ -1,6 +1,6 @@
 use Rattle.std.proofs.Common.{ℕ, ◌<◌, length, Option, ap, ◌∙◌, sym, arith, zero-add}
 use Rattle.pt_reaction.specs.Channels.{lists_of}
-use Rattle.pt_process.proofs.ProcessLaws.{lacking-some, lacking-none, lines-long, full-next, line-lacks}
+use Rattle.pt_puts.proofs.LineLaws.{lacking-some, lacking-none, lines-long, full-next, line-lacks}
 use Rattle.pt_rv_parts.proofs.process.lacking_of.Goals as goal
 
 pub returns-then-have-count-clause-place : goal.returns-then-have-count-clause-place

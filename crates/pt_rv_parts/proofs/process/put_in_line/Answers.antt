@@ -1,5 +1,5 @@
 use Rattle.std.proofs.Common.{arith}
-use Rattle.pt_process.proofs.ProcessLaws.{line-spare, line-more, spare-set, spare-other}
+use Rattle.pt_puts.proofs.LineLaws.{line-spare, line-more, spare-set, spare-other}
 use Rattle.pt_rv_parts.proofs.process.put_in_line.Goals as goal
 
 pub put-requires : goal.put-requires

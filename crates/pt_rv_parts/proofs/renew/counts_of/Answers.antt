@@ -1,5 +1,6 @@
 use Rattle.std.proofs.Common.{ap, sym, ◌∙◌}
-use Rattle.pt_rv_parts.specs.Process.{counts_in, need_in}
+use Rattle.pt_rv_parts.specs.Process.{counts_in}
+use Rattle.pt_puts.specs.Need.{need_in}
 use Rattle.pt_rv_parts.proofs.StepLaws.{no-counts}
 use Rattle.pt_rv_parts.proofs.renew.counts_of.Goals as goal
 

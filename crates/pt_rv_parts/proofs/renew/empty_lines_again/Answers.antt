@@ -1,6 +1,6 @@
 use Rattle.std.proofs.Common.{◌∙◌, arith}
 use Rattle.pt_reaction.specs.Channels.{lists_of}
-use Rattle.pt_process.proofs.ProcessLaws.{lines-long}
+use Rattle.pt_puts.proofs.LineLaws.{lines-long}
 use Rattle.pt_rv_parts.proofs.GatherLaws.{empties-more, empties-all}
 use Rattle.pt_rv_parts.proofs.renew.empty_lines_again.Goals as goal
 

@@ -1,5 +1,5 @@
 use Rattle.std.proofs.Common.{◌≤◌, max, get_or, subst, ◌∙◌, arith}
-use Rattle.pt_process.specs.Process.{room_at}
+use Rattle.pt_puts.specs.Lines.{room_at}
 use Rattle.pt_rv_parts.proofs.GatherLaws.{rooms-more, rooms-all}
 use Rattle.pt_rv_parts.proofs.renew.make_rooms.Goals as goal
 

@@ -1,7 +1,7 @@
 use Rattle.std.proofs.Common.{◌≡◌, ℕ, ◌<◌, ◌≤◌, [], length, max, get_or}
 use Rattle.pt_meaning.specs.Streams.{at}
 use Rattle.pt_reaction.specs.Channels.{lists_of}
-use Rattle.pt_process.specs.Process.{room_at}
+use Rattle.pt_puts.specs.Lines.{room_at}
 use Rattle.pt_rv_parts.proofs.renew.make_rooms.Given as goal
 
 abbrev pub invariant-loop-place : goal.invariant-loop-place

@@ -2,7 +2,7 @@ use Rattle.std.proofs.Common.{[], ◌∷◌, length, ap, sym, subst, ◌∙◌}
 use Rattle.pt_firing.specs.Need.{need_of}
 use Rattle.pt_rv_laws.specs.Lawful.{HasPlaces}
 use Rattle.pt_value.specs.declared.token.Token.{Token}
-use Rattle.pt_process.specs.Process.{put_of}
+use Rattle.pt_puts.specs.Puts.{put_of}
 use Rattle.pt_rv_work.specs.Core.{Standing, nobody, once_fired}
 use Rattle.pt_rv_parts.proofs.ListLaws.{change-set, set-same, read-as, where-ok, where-err}
 use Rattle.pt_rv_parts.proofs.team.tell_one_at.Goals as goal

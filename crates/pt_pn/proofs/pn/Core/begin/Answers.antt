@@ -1,5 +1,5 @@
 use Rattle.std.proofs.Common.{length, ap, sym, ◌∙◌, arith}
-use Rattle.pt_process.specs.Process.{puts_in}
+use Rattle.pt_puts.specs.Puts.{puts_in}
 use Rattle.pt_pn.specs.Puts.{all_put}
 use Rattle.pt_pn.proofs.CallLaws.{promise-counted, promise-spares, arrivals-there, begin-keeps, begin-fits, begin-is}
 use Rattle.pt_pn.proofs.SettledLaws.{begun-settled}

@@ -1,5 +1,6 @@
 use Rattle.std.proofs.Common.{refl, arith}
-use Rattle.pt_process.specs.Process.{put_of, with_put_made}
+use Rattle.pt_puts.specs.Puts.{put_of}
+use Rattle.pt_process.specs.Process.{with_put_made}
 use Rattle.pt_pn.proofs.CallLaws.{promise-counted, promise-spares}
 use Rattle.pt_pn.proofs.StepLaws.{in-list, put-waits, put-on, put-made, put-keeps, handed-still}
 use Rattle.pt_pn.proofs.SettledLaws.{put-settled}

@@ -1,5 +1,6 @@
 use Rattle.pt_firing.specs.Need.{need_of}
-use Rattle.pt_process.specs.Process.{puts_in, once_fired}
+use Rattle.pt_puts.specs.Puts.{puts_in}
+use Rattle.pt_process.specs.Process.{once_fired}
 use Rattle.pt_pn.proofs.CallLaws.{puts-there, told-there, told-places, told-got, told-keeps, told-fits, told-so}
 use Rattle.pt_pn.proofs.SettledLaws.{told-settled}
 use Rattle.pt_pn.proofs.pn.Core.told.Goals as goal

@@ -5,7 +5,7 @@ use Rattle.pt_meaning.specs.Process.{to_each}
 use Rattle.pt_value.specs.declared.token.Token.TheVariants.{Int}
 use Rattle.pt_firing.specs.Need.{need_of}
 use Rattle.pt_process.specs.Process.{once_fired}
-use Rattle.pt_process.proofs.StagedLaws.{fan-puts}
+use Rattle.pt_puts.proofs.PutLaws.{fan-puts}
 use Rattle.pt_pn.proofs.CallLaws.{fan-there, told-there, told-places, told-got, told-none, told-keeps, told-fits, told-so}
 use Rattle.pt_pn.proofs.SettledLaws.{told-settled}
 use Rattle.pt_pn.proofs.pn.Core.told_number.Goals as goal

@@ -2,7 +2,8 @@ use Rattle.std.proofs.Common.{length, get_or, ap, ◌∙◌, arith}
 use Rattle.pt_meaning.specs.Running.{total}
 use Rattle.pt_value.specs.declared.token.Token.{Token}
 use Rattle.pt_pn_laws.specs.State as state
-use Rattle.pt_process.proofs.NetworkLaws.{offset-long, offset-is, total-whole}
+use Rattle.pt_process.proofs.NetworkLaws.{offset-long, offset-is}
+use Rattle.pt_puts.proofs.FanLaws.{total-whole}
 use Rattle.pt_process.proofs.network.Network.inner.Goals as goal
 
 pub index-requires : goal.index-requires

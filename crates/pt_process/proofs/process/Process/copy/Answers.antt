@@ -1,7 +1,8 @@
 use Rattle.std.proofs.Common.{◌≡◌, ℕ, ◌<◌, length, ap, sym, subst, ◌∙◌, arith}
 use Rattle.pt_reaction.specs.Channels.{lists_of}
 use Rattle.pt_process.specs.Process.{Gathers, lined_in}
-use Rattle.pt_process.proofs.CopyLaws.{HasRoomAt, same-lines, gathers-same, copied-is}
+use Rattle.pt_process.proofs.CopyLaws.{HasRoomAt, gathers-same, copied-is}
+use Rattle.pt_puts.proofs.LineLaws.{same-lines}
 use Rattle.pt_process.proofs.process.Process.copy.Goals as goal
 
 pub invariant_of-result : goal.invariant_of-result

@@ -1,5 +1,6 @@
 use Rattle.std.proofs.Common.{length, ap, sym, ◌∙◌}
-use Rattle.pt_process.proofs.ProcessLaws.{lines-long, alone-long}
+use Rattle.pt_puts.proofs.LineLaws.{lines-long}
+use Rattle.pt_process.proofs.ProcessLaws.{alone-long}
 use Rattle.pt_process.proofs.StepLaws.{not-handed, lines-handed, hand-is, has-one, one-long, one-handed, one-handed-gathers}
 use Rattle.pt_process.proofs.process.Process.hand.Goals as goal
 

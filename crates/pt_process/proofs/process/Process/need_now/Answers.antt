@@ -2,7 +2,8 @@ use Rattle.std.proofs.Common.{◌≡◌, [], length, replicate, false, ap, sym, 
 use Rattle.pt_firing.specs.Need.{need_of}
 use Rattle.pt_pn_laws.specs.Lawful.{HasPlaces}
 use Rattle.pt_process.specs.Process.{HasRooms, got_in, need_kept}
-use Rattle.pt_process.proofs.RoomLaws.{are-empty, rooms-gather, rooms-renewed, places-kept}
+use Rattle.pt_puts.proofs.LineLaws.{are-empty}
+use Rattle.pt_process.proofs.RoomLaws.{rooms-gather, rooms-renewed, places-kept}
 use Rattle.pt_process.proofs.StepLaws.{renewed-is, got-long}
 use Rattle.pt_process.proofs.process.Process.need_now.Goals as goal
 

@@ -4,8 +4,9 @@ use Rattle.pt_meaning.specs.Machine.{Need}
 use Rattle.pt_meaning.specs.Streams.{Streams}
 use Rattle.pt_value.specs.declared.token.Token.{Token}
 use Rattle.pt_pn_laws.specs.Lawful.{HasPlaces}
-use Rattle.pt_process.specs.declared.process.StagedPut.{StagedPut}
-use Rattle.pt_process.specs.Process.{Standing, HasRooms, need_in, puts_in}
+use Rattle.pt_puts.specs.declared.puts.StagedPut.{StagedPut}
+use Rattle.pt_process.specs.Process.{Standing, HasRooms, need_in}
+use Rattle.pt_puts.specs.Puts.{puts_in}
 use Rattle.pt_process.proofs.RoomLaws.{rooms-gather, rooms-got}
 use Rattle.pt_process.proofs.process.Process.new.Goals as goal
 

@@ -1,5 +1,6 @@
 use Rattle.std.proofs.Common.{ap, ◌∙◌}
-use Rattle.pt_process.specs.Process.{Standing, with_puts, puts_in}
+use Rattle.pt_process.specs.Process.{Standing, with_puts}
+use Rattle.pt_puts.specs.Puts.{puts_in}
 use Rattle.pt_process.proofs.process.Process.told.Goals as goal
 
 pub returns-clause-told : goal.returns-clause-told

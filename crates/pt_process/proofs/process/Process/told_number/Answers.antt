@@ -2,7 +2,8 @@ use Rattle.std.proofs.Common.{w64, ap, ◌∙◌}
 use Rattle.std.proofs.lemmas.Int.{to_z-of_z}
 use Rattle.pt_meaning.specs.Process.{to_each}
 use Rattle.pt_value.specs.declared.token.Token.TheVariants.{Int}
-use Rattle.pt_process.specs.Process.{Standing, puts_in}
+use Rattle.pt_process.specs.Process.{Standing}
+use Rattle.pt_puts.specs.Puts.{puts_in}
 use Rattle.pt_firing.specs.Need.{need_of}
 use Rattle.pt_process.proofs.StepLaws.{told-is}
 use Rattle.pt_process.proofs.process.Process.told_number.Goals as goal

@@ -1,7 +1,7 @@
 use Rattle.std.proofs.Common.{length, ap, ◌∙◌, arith}
 use Rattle.pt_rv_laws.specs.RvActs.{State}
 use Rattle.pt_rv_work.specs.Core.{gets_there}
-use Rattle.pt_rv_parts.specs.Plan.{target_of}
+use Rattle.pt_rv_plan.specs.Plan.{target_of}
 use Rattle.pt_rv.specs.Core.{stage_of}
 use Rattle.pt_rv.specs.Parties.{moving_in}
 use Rattle.pt_rv.proofs.BarrierLaws.{level-passed}

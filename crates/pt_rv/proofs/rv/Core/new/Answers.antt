@@ -2,7 +2,7 @@ use Rattle.std.proofs.Common.{◌≡◌, sym, subst}
 use Rattle.std.specs.Prelude.{IfOk}
 use Rattle.pt_rv_laws.specs.State.{Processes, started}
 use Rattle.pt_rv_laws.specs.RvActs.{State}
-use Rattle.pt_rv_parts.specs.Plan.{AreSound}
+use Rattle.pt_rv_plan.specs.Plan.{AreSound}
 use Rattle.pt_rv.proofs.rv.Core.new.Goals as goal
 
 pub fresh_parties-requires : goal.fresh_parties-requires

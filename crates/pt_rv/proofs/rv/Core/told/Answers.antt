@@ -1,6 +1,6 @@
 use Rattle.std.proofs.Common.{[], ◌∷◌, length, get_or, ap, sym, subst, ◌∙◌, arith}
 use Rattle.pt_firing.specs.Need.{need_of}
-use Rattle.pt_process.specs.Process.{puts_in}
+use Rattle.pt_puts.specs.Puts.{puts_in}
 use Rattle.pt_rv_laws.specs.State.{asked_process}
 use Rattle.pt_rv_laws.specs.Lawful.{HasPlaces}
 use Rattle.pt_rv_laws.specs.RvActs.{State}

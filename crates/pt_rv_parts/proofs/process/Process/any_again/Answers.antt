@@ -1,7 +1,8 @@
 use Rattle.std.proofs.Common.{inr, sym, ap, subst, false, None, ◌∙◌}
 use Rattle.pt_meaning.specs.Machine as machine
-use Rattle.pt_rv_parts.specs.declared.need.KeptNeed.TheVariants.{Any}
-use Rattle.pt_rv_parts.specs.Process.{Gathers, got_in, need_in}
+use Rattle.pt_puts.specs.declared.need.KeptNeed.TheVariants.{Any}
+use Rattle.pt_rv_parts.specs.Process.{Gathers, got_in}
+use Rattle.pt_puts.specs.Need.{need_in}
 use Rattle.pt_rv_parts.proofs.StepLaws.{renewed-is, row-emptied, any-need, alone-got}
 use Rattle.pt_rv_parts.proofs.process.Process.any_again.Goals as goal
 

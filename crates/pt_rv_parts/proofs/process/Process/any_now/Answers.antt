@@ -1,6 +1,6 @@
 use Rattle.std.proofs.Common.{refl, ◌∙◌}
 use Rattle.pt_meaning.specs.Machine as machine
-use Rattle.pt_rv_parts.specs.declared.need.KeptNeed.TheVariants.{Any}
+use Rattle.pt_puts.specs.declared.need.KeptNeed.TheVariants.{Any}
 use Rattle.pt_rv_parts.proofs.StepLaws.{renewed-is, row-emptied}
 use Rattle.pt_rv_parts.proofs.process.Process.any_now.Goals as goal
 

@@ -1,6 +1,6 @@
 use Rattle.std.proofs.Common.{◌≡◌, length, ap, sym, ◌∙◌, arith}
 use Rattle.pt_reaction.specs.Channels.{lists_of}
-use Rattle.pt_process.proofs.CopyLaws.{same-lines}
+use Rattle.pt_puts.proofs.LineLaws.{same-lines}
 use Rattle.pt_rv_parts.proofs.CopyLaws.{gathers-again, copied-is}
 use Rattle.pt_rv_parts.proofs.process.Process.copy.Goals as goal
 

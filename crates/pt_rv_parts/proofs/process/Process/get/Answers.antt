@@ -1,5 +1,5 @@
 use Rattle.std.proofs.Common.{◌∙◌, inl, sym, subst, ap, length, length-set}
-use Rattle.pt_rv_parts.specs.declared.need.KeptNeed.TheVariants.{Any}
+use Rattle.pt_puts.specs.declared.need.KeptNeed.TheVariants.{Any}
 use Rattle.pt_rv_parts.specs.Process.{Gathers}
 use Rattle.pt_rv_parts.proofs.StepLaws.{over-takes, need-is, takes-there, takes-is, takes-gathers, one-there, one-gathers, alone-is}
 use Rattle.pt_rv_parts.proofs.process.Process.get.Goals as goal

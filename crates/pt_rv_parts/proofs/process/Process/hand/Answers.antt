@@ -1,5 +1,5 @@
 use Rattle.std.proofs.Common.{◌∙◌, sym, length, ap}
-use Rattle.pt_process.proofs.ProcessLaws.{lines-long}
+use Rattle.pt_puts.proofs.LineLaws.{lines-long}
 use Rattle.pt_rv_parts.proofs.StepLaws.{hand-is, lines-handed, alone-handed, alone-handed-gathers}
 use Rattle.pt_rv_parts.proofs.process.Process.hand.Goals as goal
 

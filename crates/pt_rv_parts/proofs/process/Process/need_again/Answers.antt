@@ -2,7 +2,8 @@ use Rattle.std.proofs.Common.{inl, refl, sym, ap, subst, false, None, ◌∙◌}
 use Rattle.pt_value.specs.declared.token.Token.{Token}
 use Rattle.pt_rv_work.specs.Core.{Standing}
 use Rattle.pt_meaning.specs.Machine as machine
-use Rattle.pt_rv_parts.specs.Process.{Gathers, HaveRoom, got_in, need_in}
+use Rattle.pt_rv_parts.specs.Process.{Gathers, HaveRoom, got_in}
+use Rattle.pt_puts.specs.Need.{need_in}
 use Rattle.pt_rv_parts.proofs.GatherLaws.{room-empty, gathers-first}
 use Rattle.pt_rv_parts.proofs.StepLaws.{renewed-is, lines-emptied, row-emptied, counts-need, counted-got, alone-got, one-filled, got-long}
 use Rattle.pt_rv_parts.proofs.process.Process.need_again.Goals as goal

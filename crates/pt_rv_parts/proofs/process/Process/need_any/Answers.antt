@@ -1,4 +1,4 @@
-use Rattle.pt_rv_parts.specs.declared.need.KeptNeed.TheVariants.{Any}
+use Rattle.pt_puts.specs.declared.need.KeptNeed.TheVariants.{Any}
 use Rattle.pt_rv_parts.proofs.StepLaws.{need-is}
 use Rattle.pt_rv_parts.proofs.process.Process.need_any.Goals as goal
 

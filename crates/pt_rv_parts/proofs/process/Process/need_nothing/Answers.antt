@@ -1,7 +1,7 @@
 use Rattle.std.proofs.Common.{refl, sym, ◌∙◌}
 use Rattle.pt_meaning.specs.Machine as machine
 use Rattle.pt_reaction.specs.Channels.{lists_of}
-use Rattle.pt_rv_parts.specs.declared.need.KeptNeed.TheVariants.{Over}
+use Rattle.pt_puts.specs.declared.need.KeptNeed.TheVariants.{Over}
 use Rattle.pt_rv_parts.proofs.StepLaws.{renewed-is, lines-emptied}
 use Rattle.pt_rv_parts.proofs.process.Process.need_nothing.Goals as goal
 

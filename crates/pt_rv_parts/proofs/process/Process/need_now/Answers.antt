@@ -1,7 +1,7 @@
 use Rattle.std.proofs.Common.{◌≡◌, List, ℕ, [], ◌∷◌, sym, ap, subst, length, ◌∙◌}
 use Rattle.pt_meaning.specs.Machine as machine
 use Rattle.pt_reaction.specs.Channels.{lists_of}
-use Rattle.pt_rv_parts.specs.declared.need.KeptNeed.TheVariants.{Counts}
+use Rattle.pt_puts.specs.declared.need.KeptNeed.TheVariants.{Counts}
 use Rattle.pt_rv_parts.specs.Process.{HaveRoom, renewed}
 use Rattle.pt_rv_parts.proofs.GatherLaws.{room-empty, gathers-first}
 use Rattle.pt_rv_parts.proofs.StepLaws.{renewed-is, lines-emptied, got-long}

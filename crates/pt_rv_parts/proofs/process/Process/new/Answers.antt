@@ -1,6 +1,7 @@
 use Rattle.std.proofs.Common.{length, sym, ap, subst, ◌∙◌}
 use Rattle.pt_rv_laws.specs.Lawful.{HasPlaces}
-use Rattle.pt_rv_parts.specs.Process.{at_start, counts_in, need_in}
+use Rattle.pt_rv_parts.specs.Process.{at_start, counts_in}
+use Rattle.pt_puts.specs.Need.{need_in}
 use Rattle.pt_rv_parts.proofs.StepLaws.{start-is, start-gathers}
 use Rattle.pt_rv_parts.proofs.process.Process.new.Goals as goal
 

@@ -1,6 +1,6 @@
 use Rattle.std.proofs.Common.{◌∷◌, [], refl, sym, ◌∙◌}
 use Rattle.pt_meaning.specs.Machine as machine
-use Rattle.pt_rv_parts.specs.declared.need.KeptNeed.TheVariants.{One}
+use Rattle.pt_puts.specs.declared.need.KeptNeed.TheVariants.{One}
 use Rattle.pt_rv_parts.proofs.StepLaws.{renewed-is, row-emptied, got-long}
 use Rattle.pt_rv_parts.proofs.process.Process.one_now.Goals as goal
 

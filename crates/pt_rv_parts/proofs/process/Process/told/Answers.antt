@@ -1,6 +1,6 @@
 use Rattle.std.proofs.Common.{ap, ◌∙◌}
 use Rattle.pt_value.specs.declared.token.Token.{Token}
-use Rattle.pt_process.specs.Process.{puts_in}
+use Rattle.pt_puts.specs.Puts.{puts_in}
 use Rattle.pt_rv_work.specs.Core.{Standing}
 use Rattle.pt_rv_parts.specs.Process.{with_puts}
 use Rattle.pt_rv_parts.proofs.process.Process.told.Goals as goal

@@ -1,6 +1,6 @@
 use Rattle.std.proofs.Common.{get_or, ap, subst, ◌∙◌, arith, List}
 use Rattle.pt_value.specs.declared.token.Token.{Token}
-use Rattle.pt_process.specs.Process.{PutsFirst}
+use Rattle.pt_puts.specs.Puts.{PutsFirst}
 use Rattle.pt_rv_work.specs.Core.{Standing, nobody}
 use Rattle.pt_rv_parts.proofs.ListLaws.{read-as}
 use Rattle.pt_rv_parts.proofs.TeamLaws.{there-of}

@@ -4,7 +4,7 @@ use Rattle.pt_meaning.specs.Streams.{change_at}
 use Rattle.pt_meaning.specs.Process.{at_rest}
 use Rattle.pt_rv_laws.specs.Lawful.{HasPlaces}
 use Rattle.pt_value.specs.declared.token.Token.{Token}
-use Rattle.pt_process.specs.Process.{put_of}
+use Rattle.pt_puts.specs.Puts.{put_of}
 use Rattle.pt_rv_work.specs.Core.{Standing, nobody, next_of, once_fired}
 use Rattle.pt_rv_parts.specs.Team.{fires_in}
 use Rattle.pt_rv_parts.proofs.TeamLaws.{flagged, mark-there, there-of, changed-is}

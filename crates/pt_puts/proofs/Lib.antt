@@ -1,0 +1,3 @@
+pub mod LineLaws
+pub mod PutLaws
+pub mod FanLaws

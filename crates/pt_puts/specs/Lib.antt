@@ -1,0 +1,5 @@
+pub mod Codes
+pub mod Puts
+pub mod Lines
+pub mod Need
+pub mod Fans

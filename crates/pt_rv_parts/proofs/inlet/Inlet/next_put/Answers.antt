@@ -1,7 +1,0 @@
-use Rattle.std.proofs.Common.{subst}
-use Rattle.pt_process.specs.Process.{PutsFirst}
-use Rattle.pt_rv_parts.specs.Ends.{Arriving}
-use Rattle.pt_rv_parts.proofs.inlet.Inlet.next_put.Goals as goal
-
-pub returns : goal.returns
-returns c = subst (λ (a : Arriving). PutsFirst a.puts c.first_put.result) c.self.view_is c.first_put.ensures

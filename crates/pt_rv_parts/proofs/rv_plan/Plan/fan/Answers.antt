@@ -1,7 +1,0 @@
-use Rattle.std.proofs.Common.{ap, ◌∙◌}
-use Rattle.pt_process.specs.Plan.{fan_at, fans_in}
-use Rattle.pt_rv_parts.proofs.PlanLaws.{fan-is}
-use Rattle.pt_rv_parts.proofs.rv_plan.Plan.fan.Goals as goal
-
-pub returns : goal.returns
-returns c = fan-is c.self.inside c.args.self.now c.self.invariant c.self.view_is c.args.process c.args.port c.read_fan.result.now c.requires (c.read_fan.ensures ∙ ap (λ v. fan_at (fans_in v) c.args.process c.args.port) c.deref.ensures.value)

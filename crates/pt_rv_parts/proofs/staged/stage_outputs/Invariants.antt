@@ -1,7 +1,0 @@
-use Rattle.std.proofs.Common.{◌≡◌, ◌++◌, drop}
-use Rattle.pt_meaning.specs.Process.{puts_of}
-use Rattle.pt_process.specs.Process.{puts_in}
-use Rattle.pt_rv_parts.proofs.staged.stage_outputs.Given as goal
-
-abbrev pub invariant-loop-port : goal.invariant-loop-port
-invariant-loop-port l = puts_in l.staged.items ++ puts_of l.plan.plan.net.sources l.process l.port (drop l.port l.outputs) ≡ puts_of l.plan.plan.net.sources l.process 0 l.outputs

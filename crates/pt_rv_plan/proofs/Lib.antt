@@ -1,0 +1,3 @@
+pub mod FanLaws
+pub mod TargetLaws
+pub mod PlanLaws
