@@ -16,8 +16,7 @@ use pt_firing::{Answer, Blocked, Inputs, Place};
 use pt_node::{Body, Node};
 use pt_past::{Labels, MeetingRecord};
 use pt_rows::first_row;
-use pt_seq::{fire_actor, fire_within, go_on};
-use pt_several::Buffers;
+use pt_several::{Buffers, FiresTrees, fire_actor};
 use pt_time::Tag;
 use pt_turns::Within;
 use pt_value::Text;
@@ -45,9 +44,9 @@ enum Untaken {
     Memory,
 }
 
-/// One firing of the node at a tag, as `fire_within` makes it, whose outputs nobody takes.
+/// One firing of the node at a tag, as `fire_within` of what fires trees makes it, whose outputs nobody takes.
 #[inline(always)]
-pub fn fire_alone(
+pub fn fire_alone<F: FiresTrees>(
     alloc: Global,
     node: &mut Node,
     tag: Tag,
@@ -61,14 +60,14 @@ pub fn fire_alone(
     ensures counted { count_of (shown_node node.new) + left.new ≡ count_of (shown_node node.old) + left.old }
 {
     if node.records.as_slice().is_empty() {
-        return fire_bare(alloc, node, tag, inputs, left);
+        return fire_bare::<F>(alloc, node, tag, inputs, left);
     }
-    fire_recorded(alloc, node, tag, inputs, left)
+    fire_recorded::<F>(alloc, node, tag, inputs, left)
 }
 
 /// The same of a node with recorded outputs.
 #[inline(never)]
-fn fire_recorded(
+fn fire_recorded<F: FiresTrees>(
     alloc: Global,
     node: &mut Node,
     tag: Tag,
@@ -81,7 +80,7 @@ fn fire_recorded(
     ensures outline { outline_of (shown_node node.new) ≡ outline_of (shown_node node.old) }
     ensures counted { count_of (shown_node node.new) + left.new ≡ count_of (shown_node node.old) + left.old }
 {
-    match fire_within(alloc, node, tag, inputs, left) {
+    match F::fire_within(alloc, node, tag, inputs, left) {
         Answer::Done(_) => Fired::Done,
         Answer::Fault(place) => Fired::Fault(place),
         Answer::Spent(count) => Fired::Spent(count),
@@ -92,7 +91,13 @@ fn fire_recorded(
 
 /// The same of a node without recorded outputs.
 #[inline(always)]
-fn fire_bare(alloc: Global, node: &mut Node, tag: Tag, inputs: &Inputs<'_>, left: &mut u64) -> Fired
+fn fire_bare<F: FiresTrees>(
+    alloc: Global,
+    node: &mut Node,
+    tag: Tag,
+    inputs: &Inputs<'_>,
+    left: &mut u64,
+) -> Fired
     requires live { IsLive (shown_node node.old) }
     requires inputs { Takes tag (shown_node node.old) inputs.now }
     requires bare { (out-Node node.old).records ≡ [] }
@@ -101,7 +106,7 @@ fn fire_bare(alloc: Global, node: &mut Node, tag: Tag, inputs: &Inputs<'_>, left
     ensures counted { count_of (shown_node node.new) + left.new ≡ count_of (shown_node node.old) + left.old }
 {
     let allowance = *left;
-    match fire_untaken(alloc, node, tag, inputs, left) {
+    match fire_untaken::<F>(alloc, node, tag, inputs, left) {
         Untaken::Done => {}
         Untaken::Fault(place) => return Fired::Fault(place),
         Untaken::Spent => return Fired::Spent(allowance),
@@ -121,7 +126,7 @@ fn fire_bare(alloc: Global, node: &mut Node, tag: Tag, inputs: &Inputs<'_>, left
 
 /// One firing of the node, which isn't recorded.
 #[inline(always)]
-fn fire_untaken(
+fn fire_untaken<F: FiresTrees>(
     alloc: Global,
     node: &mut Node,
     tag: Tag,
@@ -143,7 +148,7 @@ fn fire_untaken(
             let within = fire_actor(alloc, held, &node.path, node.past.made, tag, inputs);
             without_outputs(within)
         }
-        Body::Composite(director) => fire_closed(
+        Body::Composite(director) => fire_closed::<F>(
             alloc,
             director.get_mut(),
             &mut node.children,
@@ -160,7 +165,7 @@ fn fire_untaken(
 
 /// One firing of a composite. Often it is finished after one row of firings, and then its own outputs are let go of at once.
 #[inline(always)]
-fn fire_closed(
+fn fire_closed<F: FiresTrees>(
     alloc: Global,
     director: &mut Director,
     children: &mut Vec<Node>,
@@ -193,7 +198,7 @@ fn fire_closed(
     if rest.is_finished() {
         return close(alloc, director);
     }
-    let within = go_on(
+    let within = F::go_on(
         alloc,
         director,
         children,

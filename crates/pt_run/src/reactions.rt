@@ -12,6 +12,7 @@ use pt_alone::{Fired, fire_alone};
 use pt_firing::{Inputs, Tokens};
 use pt_next::past_limit;
 use pt_node::Node;
+use pt_seq::OneThread;
 use pt_trees::{DeJob, Ended};
 use std::alloc::{AllocError, Global};
 
@@ -41,7 +42,7 @@ pub(crate) fn run_reactions(
             Turn::Idle => return Ok(Ended::Idle),
             Turn::Limit => return Ok(Ended::Fault(past_limit(alloc, top, fired)?)),
         };
-        match fire_alone(alloc, top, tag, &Inputs::of(&none), left) {
+        match fire_alone::<OneThread>(alloc, top, tag, &Inputs::of(&none), left) {
             Fired::Done => {}
             Fired::Fault(place) => return Ok(Ended::Fault(place)),
             Fired::Spent(_) => return Ok(Ended::Spent(budget)),

@@ -2,7 +2,6 @@ ghost use Rattle.std.specs.Prelude.{◌≡◌, ◌+◌, ◌<◌, ◌≤◌, List
 ghost use Rattle.pt_meaning.specs.Basics as basics;
 ghost use Rattle.pt_value.specs.declared.token.Token.{Token};
 ghost use Rattle.pt_records.specs.Kept.{Made};
-ghost use Rattle.pt_library.specs.LibraryActor as library;
 ghost use Rattle.pt_node.specs.declared.node.Node.{out-Node};
 ghost use Rattle.pt_directors.specs.Directors as directors;
 ghost use Rattle.pt_directors.specs.Directors.{director_calls};
@@ -11,7 +10,7 @@ ghost use Rattle.pt_node.specs.Shown.{Shown, shown, shown_node, all_of};
 ghost use Rattle.pt_node.specs.View.{outline_of, outlines_of, count_of, counts_of};
 ghost use Rattle.pt_node.specs.Live.{IsLive, is_live, IsFit, Takes, AllFit, IsReady, TakenBy};
 ghost use Rattle.pt_past.specs.Meetings.{Serves};
-ghost use Rattle.pt_turns.specs.Within.{WithinTo, SpendsAll, StaysFit, AnswersTo, EndsLive, ActorTo};
+ghost use Rattle.pt_turns.specs.Within.{WithinTo, SpendsAll, StaysFit, AnswersTo, EndsLive};
 ghost use Rattle.pt_turns.specs.Composite.{CompositeTo, KeepsFit, EndsAs, FinishTo};
 ghost use Rattle.pt_turns.specs.Turns.{TurnTo, TurnFrom, TurnSpends, MayFire};
 ghost use Rattle.pt_turns.specs.Between.{Rested, IsRestedUnderWay};
@@ -20,12 +19,12 @@ ghost use Rattle.pt_turns.specs.OwnMeetings.{own_of};
 use crate::full::full_at;
 use pt_core::Core;
 use pt_directors::Director;
-use pt_firing::{Answer, Fires, Inputs, Step};
-use pt_node::{Body, Held, Node};
+use pt_firing::{Answer, Inputs};
+use pt_node::{Body, Node};
 use pt_past::{Labels, MeetingRecord};
 use pt_pause::{Pause, settle};
 use pt_rows::{fire_row, first_row};
-use pt_several::{Buffers, several, tell_numbers};
+use pt_several::{Buffers, fire_actor, several, tell_numbers};
 use pt_time::Tag;
 use pt_turns::{Rest, Turn, Within, fault_at, tell};
 use pt_value::Text;
@@ -224,25 +223,6 @@ pub fn go_on(
             left,
             &mut buffers.row,
         );
-    }
-}
-
-/// One step of a library actor, whose path and number of firings are told where it is stuck.
-pub fn fire_actor(
-    alloc: Global,
-    held: &mut Held,
-    path: &Text,
-    made: u64,
-    tag: Tag,
-    inputs: &Inputs<'_>,
-) -> Within
-    requires { library.Takes tag held.old.actor inputs.now }
-    ensures goes { ActorTo held.old path.now made tag inputs.now result held.new }
-{
-    match held.actor.step(alloc, tag, inputs) {
-        Step::Done(outputs) => Within::Done(outputs),
-        Step::Fault(kind) => fault_at(alloc, path, made, kind),
-        Step::Memory => Within::Memory,
     }
 }
 

@@ -3,5 +3,7 @@
 
 mod fire;
 mod full;
+mod one_thread;
 
-pub use fire::{fire_actor, fire_seq, fire_within, go_on};
+pub use fire::{fire_seq, fire_within, go_on};
+pub use one_thread::OneThread;

@@ -11,16 +11,16 @@ use Rattle.pt_alone.proofs.Untaken.{ends-untaken, close-ends}
 use Rattle.pt_alone.proofs.alone.fire_closed.Goals as goal
 
 pub close-requires : goal.close-requires
-close-requires c =
+close-requires g c =
     let p = (rested-as c.args.director.now (map shown c.args.children.now.items) c.args.tag c.args.inputs.now c.args.left.now (own_of c.args.made c.args.meetings.now c.first_row-rest.new.meetings) c.first_row-rest.new.director (map shown c.first_row-rest.new.children.items) c.first_row-rest.new.left c.first_row-rest.result (rest.Asked ask.Finished) (c.if-is_finished.ensures refl) c.first_row-rest.ensures) in
     may-finish acts acts-law p.at c.args.path.now c.args.labels.now p.gives c.first_row-rest.new.director p.asking
 
 pub returns-then-is_finished : goal.returns-then-is_finished
-returns-then-is_finished c = close-ends c.args.path.now c.args.labels.now (rested-as c.args.director.now (map shown c.args.children.now.items) c.args.tag c.args.inputs.now c.args.left.now (own_of c.args.made c.args.meetings.now c.first_row-rest.new.meetings) c.first_row-rest.new.director (map shown c.first_row-rest.new.children.items) c.first_row-rest.new.left c.first_row-rest.result (rest.Asked ask.Finished) (c.if-is_finished.ensures refl) c.first_row-rest.ensures) c.close.result c.close.new.director c.close.ensures
+returns-then-is_finished g c = close-ends c.args.path.now c.args.labels.now (rested-as c.args.director.now (map shown c.args.children.now.items) c.args.tag c.args.inputs.now c.args.left.now (own_of c.args.made c.args.meetings.now c.first_row-rest.new.meetings) c.first_row-rest.new.director (map shown c.first_row-rest.new.children.items) c.first_row-rest.new.left c.first_row-rest.result (rest.Asked ask.Finished) (c.if-is_finished.ensures refl) c.first_row-rest.ensures) c.close.result c.close.new.director c.close.ensures
 
 pub go_on-within-requires : goal.go_on-within-requires
-go_on-within-requires c = (c.args.tag, record { before = c.args.director.now; olds = map shown c.args.children.now.items; inputs = c.args.inputs.now; allowance = c.args.left.now; start = c.args.meetings.now; rested = c.first_row-rest.ensures })
+go_on-within-requires g c = (c.args.tag, record { before = c.args.director.now; olds = map shown c.args.children.now.items; inputs = c.args.inputs.now; allowance = c.args.left.now; start = c.args.meetings.now; rested = c.first_row-rest.ensures })
 
 pub returns : goal.returns
-returns c = ends-untaken c.args.path.now c.args.labels.now (own_of c.args.made c.args.meetings.now c.go_on-within.new.meetings) c.args.director.now (all_of (map shown c.args.children.now.items)) c.args.tag c.args.inputs.now c.args.left.now c.go_on-within.new.director (all_of (map shown c.go_on-within.new.children.items)) c.go_on-within.new.left c.go_on-within.result c.without_outputs.result c.without_outputs.ensures
+returns g c = ends-untaken c.args.path.now c.args.labels.now (own_of c.args.made c.args.meetings.now c.go_on-within.new.meetings) c.args.director.now (all_of (map shown c.args.children.now.items)) c.args.tag c.args.inputs.now c.args.left.now c.go_on-within.new.director (all_of (map shown c.go_on-within.new.children.items)) c.go_on-within.new.left c.go_on-within.result c.without_outputs.result c.without_outputs.ensures
     (c.go_on-within.ensures c.args.director.now (map shown c.args.children.now.items) c.args.tag c.args.inputs.now c.args.left.now c.args.meetings.now c.first_row-rest.ensures)
