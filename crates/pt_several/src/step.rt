@@ -17,7 +17,7 @@ pub fn fire_actor(
     tag: Tag,
     inputs: &Inputs<'_>,
 ) -> Within
-    requires { library.Takes held.old.actor inputs.now }
+    requires { library.Takes tag held.old.actor inputs.now }
     ensures goes { ActorTo held.old path.now made tag inputs.now result held.new }
 {
     match held.actor.step(alloc, tag, inputs) {
