@@ -7,6 +7,7 @@ ghost use Rattle.pt_puts.specs.Puts.{puts_in};
 
 use crate::process::Process;
 use pt_firing::{IntInputs, Need, Tokens};
+use pt_puts::StagedPut;
 use pt_value::Token;
 use std::alloc::{AllocError, Global};
 use std::collections::VecDeque;

@@ -9,6 +9,7 @@ ghost use Rattle.pt_puts.specs.Lines.{room_at};
 use crate::need::{KeptNeed, is_one};
 use crate::process::Process;
 use pt_firing::{Counts, Need, Tokens};
+use pt_puts::StagedPut;
 use pt_reaction::Line;
 use std::alloc::{AllocError, Global};
 use std::collections::VecDeque;
