@@ -4,9 +4,10 @@ ghost use Rattle.pt_node.specs.View.{node_of};
 ghost use Rattle.pt_trees.specs.Fresh.{IsFresh};
 ghost use Rattle.pt_trees.specs.Trees.{IsTree, AreStarted};
 ghost use Rattle.pt_trees.specs.Built.{IsBuilt, BuildFaultStands};
-ghost use Rattle.pt_build.specs.Starts.{starts_of};
+ghost use Rattle.pt_builder.specs.Starts.{starts_of};
 
-use crate::builder::Builder;
+use crate::nodes::top;
+use pt_builder::Builder;
 use pt_chart::Written;
 use pt_library::LibraryActor;
 use pt_net::Net;
@@ -30,5 +31,5 @@ pub fn build(
     ensures stands { IfErr result (BuildFaultStands net.now (starts_of starts.now stated.now machines.now)) }
 {
     let builder = Builder::of(alloc, net, starts, stated, machines)?;
-    builder.top(alloc)
+    top(alloc, &builder)
 }

@@ -1,7 +1,7 @@
 //! The tree of nodes that an engine fires, from a net.
 #![tactic(auto)]
 
-mod builder;
 mod building;
+mod nodes;
 
 pub use building::build;

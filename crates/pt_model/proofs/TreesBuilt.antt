@@ -21,7 +21,7 @@ use Rattle.pt_trees.specs.Directors.{director_of, IsDirectedBy, composing}
 use Rattle.pt_trees.specs.Trees.{IsEntity, IsUndirected, around_in, Starts, StartsAs, AreTrees}
 use Rattle.pt_trees.specs.Built as built
 use Rattle.pt_trees.proofs.DirectorLaws.{undirected-none, is-directed}
-use Rattle.pt_build.proofs.TreeLaws.{built-trees}
+use Rattle.pt_builder.proofs.TreeLaws.{built-trees}
 use Rattle.pt_order.specs.Laws.{IsNetOfDocument, IsInOrder}
 use Rattle.pt_typed.specs.RowLaw.{AreStartedIn}
 use Rattle.std.proofs.Math.Bool.{or-true}

@@ -1,5 +1,5 @@
-use Rattle.pt_build.proofs.TopLaws.{reach-top, top-built, top-tree, top-stands}
-use Rattle.pt_build.specs.Starts.{starts_of, starts_in}
+use Rattle.pt_builder.proofs.TopLaws.{reach-top, top-built, top-tree, top-stands}
+use Rattle.pt_builder.specs.Starts.{starts_of, starts_in}
 use Rattle.pt_build.proofs.building.build.Goals as goal
 
 pub top-requires : goal.top-requires

@@ -11,7 +11,7 @@ use Rattle.pt_node.specs.View.{node_of}
 use Rattle.pt_trees.specs.Trees.{Starts, AreStarted, IsTree}
 use Rattle.pt_trees.specs.Built as built
 use Rattle.pt_trees.specs.Built.{IsBuilt, BuildFaultStands}
-use Rattle.pt_build.specs.Starts.{starts_of}
+use Rattle.pt_builder.specs.Starts.{starts_of}
 use Rattle.pt_elaboration.specs.Begun.{starts_in}
 use Rattle.pt_elaboration.specs.Refused.{for_plan}
 use Rattle.pt_elaboration.proofs.StartLaws.{are-started}
