@@ -8,9 +8,10 @@ ghost use Rattle.pt_trees.specs.Rates.{AllStarted};
 
 use pt_document::Director;
 use pt_flow_composites::{pn_composite, rendezvous_composite, sdf_composite};
+use pt_modal_composite::modal_composite;
 use pt_node::Node;
 use pt_past::{Labels, Records};
-use pt_reactive_composites::{de_composite, modal_composite, sr_composite};
+use pt_reactive_composites::{de_composite, sr_composite};
 use pt_trees::{CompositeFault, Directing, Wiring};
 use pt_value::Text;
 use std::alloc::Global;

@@ -1,6 +1,7 @@
 //! The composites whose children pass tokens on, whatever the time: of SDF, PN and Rendezvous.
 #![tactic(auto)]
 
+mod inside;
 mod pn;
 mod rendezvous;
 mod sdf;

@@ -13,7 +13,7 @@ use pt_composite_node::composite_node;
 use pt_core::Source;
 use pt_directors::Boxed;
 use pt_firing::Counts;
-use pt_inside::{first_lists, is_wired, starts_of};
+use pt_inside::{first_lists, starts_of};
 use pt_node::Node;
 use pt_past::{Labels, Records};
 use pt_pn::Core;
@@ -21,6 +21,7 @@ use pt_process::CorePlan;
 use pt_stated::{Capacities, Stated};
 use pt_trees::{CompositeFault, Wiring};
 use pt_value::Text;
+use pt_wired::is_wired;
 use std::alloc::{AllocError, Global};
 
 /// The PN composite round these children, at its start. Each child is a process, and may be of any kind.

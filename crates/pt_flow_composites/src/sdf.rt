@@ -13,10 +13,11 @@ ghost use Rattle.pt_trees.specs.Composite.{trees_of, IsComposed, IsUncomposed};
 ghost use Rattle.pt_trees.specs.Sdf.{sdf};
 ghost use Rattle.pt_flow_composites.specs.Unplanned.{IsToldAs};
 
+use crate::inside::inside_of;
 use pt_composite_node::composite_node;
 use pt_directors::Boxed;
 use pt_document::Code;
-use pt_inside::{first_tokens, inside_of};
+use pt_inside::first_tokens;
 use pt_node::Node;
 use pt_past::{Labels, Records};
 use pt_plan::{PlanFault, plan};

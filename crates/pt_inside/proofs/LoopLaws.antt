@@ -1,5 +1,5 @@
 -- One step of the loops over children, channels and tokens.
-use Rattle.std.proofs.Common.{◌≡◌, ℕ, zero, suc, ◌+◌, ◌-◌, ◌<◌, ◌≤◌, List, [], ◌∷◌, ◌++◌, length, take, map, get_or, set, Bool, true, false, inl, Option, Some, None, refl, sym, ap, ap₂, ◌∙◌, subst, arith, append_assoc, add-one, get_or-set_same}
+use Rattle.std.proofs.Common.{◌≡◌, ℕ, zero, suc, ◌+◌, ◌-◌, ◌<◌, ◌≤◌, List, [], ◌∷◌, ◌++◌, length, take, map, get_or, set, true, false, inl, Option, Some, None, refl, sym, ap, ap₂, ◌∙◌, subst, arith, append_assoc, add-one, get_or-set_same}
 use Rattle.std.proofs.lemmas.List.{take_more, take_all, set-set, length-map, length-take-le}
 use Rattle.std.proofs.Math.ListN.{get_or-map}
 use Rattle.pt_meaning.specs.Basics.{Streams}
@@ -20,7 +20,6 @@ use Rattle.pt_trees.specs.Sdf.{first_counts}
 use Rattle.pt_trees.specs.Around.{Around, declared_at}
 use Rattle.pt_trees.specs.Rates.{rates_given, all_given, HaveRates, is_steady, AreSteady, HasUnsteady, IsStarted, AllStarted}
 use Rattle.pt_inside.specs.Kept.{AreKept}
-use Rattle.pt_inside.specs.Nonstrict.{is_nonstrict}
 use Rattle.pt_inside.proofs.HeldLaws.{held_to, held-append, held-empty, held-more}
 use Rattle.pt_trees.proofs.NodeLaws.{trees, trees-length, trees-more, tree-at, map-append}
 
@@ -124,11 +123,6 @@ held-step kids sources n d L new ts h e f g =
     again [] n d h = absurd (omega (arith, h))
     again (x ∷ xs) zero d h = refl
     again (x ∷ xs) (suc n) d h = again xs n d (omega (arith, h))
-
--- one child more that may give an early answer, or not
-pub flags-more : (kids : List Node) (i : ℕ) (d : Node) (flags : List Bool) (flag : Bool) → i < length kids → d ≡ get_or kids i d → flags ≡ map is_nonstrict (trees (take i kids)) → flag ≡ is_nonstrict (node_of (shown_node d)) → flags ++ flag ∷ [] ≡ map is_nonstrict (trees (take (i + 1) kids))
-flags-more kids i d flags flag h is e f =
-    ap₂ (λ (v : List Bool) (w : Bool). v ++ w ∷ []) e f ∙ sym (map-append is_nonstrict (trees (take i kids)) (node_of (shown_node d) ∷ [])) ∙ ap (λ v. map is_nonstrict v) (sym (trees-more kids i d h is))
 
 -- a child among others of which none waits for a token at any one place
 pub kept-at : (kids : List Node) (i : ℕ) (d : Node) → i < length kids → d ≡ get_or kids i d → AreKept (trees kids) → IsKept (need_of rows (node_of (shown_node d)))

@@ -1,3 +1,1 @@
 pub mod Kept
-pub mod Needs
-pub mod Nonstrict

@@ -12,7 +12,7 @@ use pt_node::{Body, Node};
 use std::alloc::{AllocError, Global};
 
 /// One for each of so many ports.
-pub fn ones(alloc: Global, ports: usize) -> Result<Counts, AllocError>
+fn ones(alloc: Global, ports: usize) -> Result<Counts, AllocError>
     ensures { IfOk result (λ counts. counts ≡ replicate ports 1) }
 {
     Ok(Counts::of(vec![in alloc; 1usize; ports]?))

@@ -1,3 +1,2 @@
 pub mod SrLaws
 pub mod DeLaws
-pub mod ModalLaws

@@ -27,7 +27,7 @@ use Rattle.pt_trees.specs.Sr.{sr, tick_plan, IsWired}
 use Rattle.pt_trees.specs.Composite.{trees_of, IsComposed}
 use Rattle.pt_trees.specs.Fresh.{AreEmpty, AllFresh}
 use Rattle.pt_composite_node.specs.Nodes.{built}
-use Rattle.pt_inside.specs.Nonstrict.{is_nonstrict}
+use Rattle.pt_wired.specs.Nonstrict.{is_nonstrict}
 use Rattle.pt_trees.proofs.ChildLaws.{actor-always, placed-child}
 use Rattle.pt_trees.proofs.FreshLaws.{list-again, nodes-list, nodes-are, all-fit, all-start, all-fitting, all-plans, all-unrecorded, start-at}
 use Rattle.pt_trees.proofs.NeedLaws.{needs-length, planned-length, need-at, get-length}

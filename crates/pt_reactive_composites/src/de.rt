@@ -11,11 +11,11 @@ use pt_composite_node::composite_node;
 use pt_de::DeCore;
 use pt_de_inside::{begin_at_outputs, planned};
 use pt_directors::Boxed;
-use pt_inside::is_wired;
 use pt_node::Node;
 use pt_past::{Labels, Records};
 use pt_trees::{CompositeFault, Wiring};
 use pt_value::Text;
+use pt_wired::is_wired;
 use std::alloc::{AllocError, Global};
 
 /// The DE composite round these children, at its start. Its children may be of any kind.

@@ -1,10 +1,8 @@
-//! The composites that react at a tag: of SR, DE and Modal.
+//! The composites of SR and DE, which react at a tag.
 #![tactic(auto)]
 
 mod de;
-mod modal;
 mod sr;
 
 pub use de::de_composite;
-pub use modal::modal_composite;
 pub use sr::sr_composite;

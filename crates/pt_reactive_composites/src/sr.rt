@@ -1,20 +1,21 @@
-ghost use Rattle.std.specs.Prelude.{◌≡◌, IfOk, IfErr, map};
+ghost use Rattle.std.specs.Prelude.{◌≡◌, IfOk, IfErr, map, replicate};
 ghost use Rattle.pt_node.specs.Shown.{shown, shown_node};
 ghost use Rattle.pt_trees.specs.Around.{around_of};
 ghost use Rattle.pt_trees.specs.Sr.{sr, tick_plan, IsWired};
 ghost use Rattle.pt_trees.specs.Fresh.{AllFresh, AreEmpty};
 ghost use Rattle.pt_trees.specs.Composite.{trees_of, IsComposed, IsUncomposed};
 ghost use Rattle.pt_sr.specs.State.{started};
-ghost use Rattle.pt_inside.specs.Nonstrict.{is_nonstrict};
+ghost use Rattle.pt_wired.specs.Nonstrict.{is_nonstrict};
 
 use pt_composite_node::composite_node;
 use pt_directors::Boxed;
-use pt_inside::{is_wired, nonstrict_of, ones, order_of, outputs_of};
+use pt_firing::Counts;
 use pt_node::Node;
 use pt_past::{Labels, Records};
 use pt_sr::{Core, CorePlan};
 use pt_trees::{CompositeFault, Wiring};
 use pt_value::Text;
+use pt_wired::{is_wired, nonstrict_of, order_of, outputs_of};
 use std::alloc::{AllocError, Global};
 
 /// The SR composite round these children, at its start. Its children may be of any kind.
@@ -59,4 +60,11 @@ fn core_of(alloc: Global, children: &[Node], wiring: Wiring) -> Result<Core, All
             order,
         },
     )
+}
+
+/// One for each of so many ports.
+fn ones(alloc: Global, ports: usize) -> Result<Counts, AllocError>
+    ensures { IfOk result (λ counts. counts ≡ replicate ports 1) }
+{
+    Ok(Counts::of(vec![in alloc; 1usize; ports]?))
 }

@@ -7,7 +7,7 @@ use Rattle.pt_node.specs.View.{Tree}
 use Rattle.pt_trees.specs.Around.{around_of}
 use Rattle.pt_trees.specs.Sr.{tick_plan}
 use Rattle.pt_trees.specs.Composite.{trees_of}
-use Rattle.pt_inside.proofs.WiredLaws.{plan-is, lawful}
+use Rattle.pt_wired.proofs.WiredLaws.{plan-is, lawful}
 use Rattle.pt_reactive_composites.proofs.sr.core_of.Goals as goal
 
 pub order_of-requires : goal.order_of-requires

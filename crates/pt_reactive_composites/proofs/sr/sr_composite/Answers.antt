@@ -7,7 +7,7 @@ use Rattle.pt_trees.specs.Around.{around_of}
 use Rattle.pt_trees.specs.Sr.{sr, tick_plan, IsWired, IsWiredIf}
 use Rattle.pt_trees.specs.Composite.{trees_of, IsComposed}
 use Rattle.pt_composite_node.specs.Nodes.{built}
-use Rattle.pt_inside.specs.Nonstrict.{is_nonstrict}
+use Rattle.pt_wired.specs.Nonstrict.{is_nonstrict}
 use Rattle.pt_reactive_composites.proofs.SrLaws.{composite-is}
 use Rattle.pt_reactive_composites.proofs.sr.sr_composite.Goals as goal
 

@@ -1,0 +1,3 @@
+pub mod NeedSteps
+pub mod FlagLaws
+pub mod WiredLaws
